@@ -1,0 +1,10 @@
+pub mod WorkedRuns
+pub mod Counts
+pub mod Unique
+pub mod Exists
+pub mod TableEvents
+pub mod Rows
+pub mod Sees
+pub mod OneRun
+pub mod Falls
+pub mod RunBelow

@@ -1,0 +1,11 @@
+pub mod Below
+pub mod Row
+pub mod Pick
+pub mod Dispatch
+pub mod Issue
+pub mod Retire
+pub mod Seen
+pub mod Run
+pub mod Schedule
+pub mod Events
+pub mod Worked
