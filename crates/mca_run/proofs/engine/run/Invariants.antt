@@ -1,0 +1,6 @@
+use Rattle.mca_run.specs.Engine.{repeated}
+use Rattle.mca_run.proofs.Kept.{KeepsRows}
+use Rattle.mca_run.proofs.engine.run.Given as goal
+
+abbrev pub invariant-loop-j : goal.invariant-loop-j
+invariant-loop-j l = KeepsRows l.machine.reorder l.machine.latency (repeated l.body) l.rows.items l.ready.items l.j
