@@ -1,19 +1,17 @@
 -- Rows by the closed forms are the run of the simple machine: each condition of the rules comes down to one comparison of cycles.
-use Rattle.std.proofs.Common.{zero, suc, ◌≡◌, ℕ, ◌+◌, ◌-◌, ◌*◌, ◌<◌, ◌≤◌, max, min, inl, inr, List, [], ◌∷◌, length, arith, sym, ◌∙◌, ap, subst, refl, Bool, true, false, ◌&&◌, ◌||◌, not, cond, None, Some}
+use Rattle.std.proofs.Common.{zero, suc, ◌≡◌, ℕ, ◌+◌, ◌-◌, ◌<◌, ◌≤◌, max, min, inl, inr, [], arith, sym, ◌∙◌, ap, subst, refl, Bool, true, false, ◌&&◌, ◌||◌, not, cond, None, Some}
 use Rattle.std.specs.Prelude.{nat_lt, nat_le, nat_eq, if◌then◌else◌, Option, is_some, slice_index}
-use Rattle.std.specs.List.{list_all}
 use Rattle.std.proofs.lemmas.Bool.Decides.{nat_tests}
 use Rattle.std.proofs.lemmas.Bool.{cases_lt, cases_eq}
-use Rattle.cycle_rules.specs.Below.{Least, sum_below, all_below, last_below}
+use Rattle.cycle_rules.specs.Below.{Least, sum_below, last_below}
 use Rattle.cycle_rules.specs.Row.{Input, Table, uops_of, phase, lead, advance_of, is_load, is_store, no_class}
 use Rattle.cycle_rules.specs.Pick.{pick, pick_units, padded}
 use Rattle.cycle_rules.specs.Dispatch.{has_room, follows, share, has_place, fits_group, fits_reorder, fits_registers, fits_loads, fits_stores, fits_buffers, can_dispatch}
 use Rattle.cycle_rules.specs.Issue.{producer, is_ready, has_operand, has_operands, memory_order, may_access, can_issue, can_leave}
 use Rattle.cycle_rules.specs.Retire.{can_retire}
-use Rattle.cycle_rules.specs.Seen.{comes_before, is_seen, has_issued, sees}
-use Rattle.cycle_rules.specs.Run.{IsIssue, IsRow}
+use Rattle.cycle_rules.specs.Seen.{comes_before, is_seen, sees}
+use Rattle.cycle_rules.specs.Run.{IsRow}
 use Rattle.cycle_rules.specs.declared.bound.Bound.{Bound}
-use Rattle.cycle_rules.specs.declared.bound.Source.{Source}
 use Rattle.mca_run.specs.Simple.{simple_machine, simple_row, read_of}
 use Rattle.mca_run.specs.Engine.{after_dispatch, freed, last_retire, completion_of, ready_at, operands, IsClosed}
 use Rattle.mca_run.proofs.Sums.{sum_zero, sum_few, sum_many, all_true, sum_term}
@@ -123,8 +121,8 @@ group_fails : (R L : ℕ) (bound : ℕ → Bound) (n : ℕ) (t : Table) (j c k :
 unfolding fits_group has_place
 group_fails R L bound n t j c k le lj older same = group_false _ _ _ _
     (let term : share 1 (uops_of (plain R L bound n) k) (sees (plain R L bound n) t 2 j c k).dispatch c ≡ 1 = share_in R L bound n t j c k le older (omega arith) ∙ share_all (t k).dispatch c same in
-      let all : share 1 (uops_of (plain R L bound n) k) (sees (plain R L bound n) t 2 j c k).dispatch c ≤ sum_below j (λ m. share 1 (uops_of (plain R L bound n) m) (sees (plain R L bound n) t 2 j c m).dispatch c) = sum_term j k (λ m. share 1 (uops_of (plain R L bound n) m) (sees (plain R L bound n) t 2 j c m).dispatch c) older in
-      omega (arith, term, all))
+    let all : share 1 (uops_of (plain R L bound n) k) (sees (plain R L bound n) t 2 j c k).dispatch c ≤ sum_below j (λ m. share 1 (uops_of (plain R L bound n) m) (sees (plain R L bound n) t 2 j c m).dispatch c) = sum_term j k (λ m. share 1 (uops_of (plain R L bound n) m) (sees (plain R L bound n) t 2 j c m).dispatch c) older in
+    omega (arith, term, all))
     (one_uop R L bound n j le)
 
 -- a row holds its entry until it retires
@@ -151,8 +149,8 @@ reorder_holds : (R L : ℕ) (bound : ℕ → Bound) (n : ℕ) (t : Table) (j c :
 unfolding fits_reorder
 reorder_holds R L bound n t j c le lj past =
     let few : held_sum R L bound n t j c ≤ j - (suc j - R) = sum_few j (suc j - R) _
-      (λ k lt. (let same : (if nat_lt c (sees (plain R L bound n) t 2 j c k).retire then uops_of (plain R L bound n) k else 0) ≡ held c (t k).retire = held_in R L bound n t j c k le (omega arith) in rw same (held_most c (t k).retire)))
-      (λ k low lt. held_in R L bound n t j c k le (omega arith) ∙ held_none c (t k).retire (past k lt (omega arith))) in
+    (λ k lt. (let same : (if nat_lt c (sees (plain R L bound n) t 2 j c k).retire then uops_of (plain R L bound n) k else 0) ≡ held c (t k).retire = held_in R L bound n t j c k le (omega arith) in rw same (held_most c (t k).retire)))
+    (λ k low lt. held_in R L bound n t j c k le (omega arith) ∙ held_none c (t k).retire (past k lt (omega arith))) in
     let one : uops_of (plain R L bound n) j ≡ 1 = one_uop R L bound n j le in
     let fits : held_sum R L bound n t j c + uops_of (plain R L bound n) j ≤ R = omega (arith, few, one) in
     grind (arith, nat_tests, fits)
@@ -269,10 +267,13 @@ can_retire_is R L bound n t j c lj kept = elim (cases_eq j 0) [
   where
     completed : Bool
     completed = nat_lt (sees (plain R L bound n) t 0 j c j).complete c
+
     own : (completed && true && true) ≡ (nat_lt (if nat_lt (t j).issue c then (t j).complete else c + 1 + L) c && true && true)
     own = ap (λ b. nat_lt (if b then (t j).complete else c + 1 + L) c && true && true) (own_issue R L bound n (t j).issue c j lj)
+
     alone : (i w : ℕ) → w ≡ i + L → (nat_lt (if nat_lt i c then w else c + 1 + L) c && true && true) ≡ nat_le (max (w + 1) 0) c
     alone i w e = grind (arith, nat_tests)
+
     both : (i w r : ℕ) → w ≡ i + L → (nat_lt (if nat_lt i c then w else c + 1 + L) c && nat_le r c && true) ≡ nat_le (max (w + 1) r) c
     both i w r e = grind (arith, nat_tests)
 
@@ -351,23 +352,31 @@ dispatches R L bound n t le closed j lj = record {
   where
     rise : (k j : ℕ) → k < j → j < n → (t k).dispatch < (t j).dispatch
     rise = rises (λ k. (t k).dispatch) n (λ k lt. dispatch_step R L bound t k (closed (suc k) lt))
+
     is : (t j).dispatch ≡ max (after_dispatch t j) (freed R t j)
     is = (closed j lj).dispatch
+
     seen : (c k : ℕ) → k < j → (sees (plain R L bound n) t 2 j c k).dispatch ≡ seen_from c (t k).dispatch
     seen c k lt = ap (λ b. if b then (t k).dispatch else c + 1) (older_dispatch (plain R L bound n) (t k).dispatch c k j lt (omega arith))
+
     first_holds : follows (λ k. (sees (plain R L bound n) t 2 j (t j).dispatch k).dispatch) j (t j).dispatch ≡ true
     first_holds = elim (cases_eq j 0) [
       | inl first ↦ follows_first _ j _ first
       | inr later ↦ follows_at _ (λ k. (t k).dispatch) j (t j).dispatch (seen (t j).dispatch) later ∙ le_true (t (j - 1)).dispatch (t j).dispatch (let lt : (t (j - 1)).dispatch < (t j).dispatch = rise (j - 1) j (omega arith) lj in omega arith)
     ]
+
     grow_to : (k m : ℕ) → k ≤ m → m < n → (t k).retire ≤ (t m).retire
     grow_to = retires_grow R L bound t n closed
+
     past : (k : ℕ) → k < j → k + R ≤ j → (t k).retire ≤ (t j).dispatch
     past k lt low = omega (arith, is, freed_is R t j (omega arith), grow_to k (j - R) (omega arith) (omega arith))
+
     full : (b : ℕ) → b < (t j).dispatch → after_dispatch t j ≤ b → R ≤ j
     full b lt late = elim (cases_lt j R) [ inl few ↦ absurd (omega (arith, is, freed_none R t j few)) | inr many ↦ omega arith ]
+
     still_held : (b : ℕ) → b < (t j).dispatch → after_dispatch t j ≤ b → (k : ℕ) → j - R ≤ k → k < j → b < (t k).retire
     still_held b lt late k low older = omega (arith, is, freed_is R t j (full b lt late), grow_to (j - R) k low (omega arith))
+
     too_early : (b : ℕ) → b < after_dispatch t j → can_dispatch (plain R L bound n) (sees (plain R L bound n) t 2 j b) j b ≡ false
     too_early b early = elim (cases_eq j 0) [
       | inl first ↦ absurd (omega (arith, first_dispatch t j first))

@@ -1,6 +1,6 @@
 -- What the engine keeps from row to row.
-use Rattle.std.proofs.Common.{zero, suc, ◌≡◌, ℕ, ◌+◌, ◌-◌, ◌*◌, ◌%◌, ◌<◌, ◌≤◌, max, inl, inr, List, [], ◌∷◌, ◌++◌, length, replicate, get_or, set, arith, sym, ◌∙◌, ap, subst, refl, Bool, true, false, cond, None, Some, add-one, length-append, ◌^◌}
-use Rattle.std.specs.Prelude.{nat_lt, nat_eq, if◌then◌else◌, Option, map, slice_index}
+use Rattle.std.proofs.Common.{suc, ◌≡◌, ℕ, ◌+◌, ◌-◌, ◌*◌, ◌%◌, ◌<◌, ◌≤◌, max, inl, inr, List, [], ◌∷◌, ◌++◌, length, replicate, get_or, set, arith, sym, ◌∙◌, ap, subst, refl, Bool, true, false, cond, None, Some, add-one, length-append, ◌^◌}
+use Rattle.std.specs.Prelude.{nat_eq, if◌then◌else◌, Option, map, slice_index}
 use Rattle.std.proofs.lemmas.Bool.Decides.{nat_tests}
 use Rattle.std.proofs.lemmas.Bool.{cases_lt, cases_eq}
 use Rattle.std.proofs.lemmas.List.{length-map, length-replicate, get_or-replicate, get_or_past, get_or-map, get_or_append_left, get_or-set_same, get_or-set_other, length-set}
@@ -8,8 +8,8 @@ use Rattle.std.proofs.lemmas.Nat.{mod_below}
 use Rattle.std.proofs.Math.Seq.{get_or-append_seam}
 use Rattle.std.proofs.Math.Nat.{mul-le-mul}
 use Rattle.cycle_rules.specs.Below.{last_below}
-use Rattle.cycle_rules.specs.Row.{Row, Input, Table, times, no_times, no_row, input}
-use Rattle.cycle_rules.specs.Run.{IsRun, IsRunOf, IsRow}
+use Rattle.cycle_rules.specs.Row.{Table, times, no_times, no_row, input}
+use Rattle.cycle_rules.specs.Run.{IsRun, IsRunOf}
 use Rattle.cycle_rules.specs.declared.bound.Bound.{Bound}
 use Rattle.cycle_rules.specs.declared.times.Times.{Times}
 use Rattle.mca_run.specs.Simple.{simple_machine, simple_row}
@@ -67,6 +67,7 @@ closed_along R L bound s t j le same row = record {
   where
     here : s j ≡ t j
     here = same j (omega arith)
+
     older : (k : ℕ) → k < j → s k ≡ t k
     older k lt = same k (omega arith)
 
@@ -147,12 +148,16 @@ keeps_more R L bound xs ready j v le keeps next low = record {
   where
     same : (k : ℕ) → k < j → times (xs ++ v ∷ []) k ≡ times xs k
     same k lt = get_or_append_left xs (v ∷ []) no_times k (omega (arith, keeps.count))
+
     here : times (xs ++ v ∷ []) j ≡ v
     here = subst (λ n. times (xs ++ v ∷ []) n ≡ v) keeps.count (get_or-append_seam xs v [] no_times)
+
     back : v ≡ times (xs ++ v ∷ []) j
     back = sym here
+
     older : (k : ℕ) → k < j → times xs k ≡ times (xs ++ v ∷ []) k
     older k lt = sym (same k lt)
+
     new_row : IsClosed R L bound (times (xs ++ v ∷ [])) j
     new_row = record {
       dispatch = ap (λ x. x.dispatch) here ∙ next.dispatch ∙ (λ i. max (after_along (times xs) (times (xs ++ v ∷ [])) j older i) (freed_along R (times xs) (times (xs ++ v ∷ [])) j le older i));
@@ -161,22 +166,29 @@ keeps_more R L bound xs ready j v le keeps next low = record {
       retire = ap (λ x. x.retire) here ∙ next.retire ∙ (λ i. max ((back i).complete + 1) (retire_along (times xs) (times (xs ++ v ∷ [])) j older i));
       units = ap (λ x. x.units) here ∙ next.units;
     }
+
     registers_after : (rd : ℕ) → length (after_write ready rd v.complete) ≡ 256
     registers_after rd = go (nat_eq rd 0)
       where
         go : (b : Bool) → length (cond b ready (set ready rd v.complete)) ≡ 256
         go true = keeps.registers
         go false = length-set ready rd v.complete ∙ keeps.registers
+
     last_after : last_retire (times (xs ++ v ∷ [])) (j + 1) ≡ v.retire
     last_after = last_row (times (xs ++ v ∷ [])) (j + 1) (omega arith) ∙ ap (λ k. (times (xs ++ v ∷ []) k).retire) (let e : j + 1 - 1 ≡ j = omega arith in e) ∙ ap (λ x. x.retire) here
+
     next_after : after_dispatch (times (xs ++ v ∷ [])) (j + 1) ≡ v.dispatch + 1
     next_after = after_row (times (xs ++ v ∷ [])) (j + 1) (omega arith) ∙ ap (λ k. (times (xs ++ v ∷ []) k).dispatch + 1) (let e : j + 1 - 1 ≡ j = omega arith in e) ∙ ap (λ x. x.dispatch + 1) here
+
     buffer : freed R (times xs) j ≤ last_retire (times xs) j
     buffer = freed_low R L bound (times xs) j le keeps.closed
+
     value_low : (r : ℕ) → r < 256 → ready_at bound (times xs) j r ≤ last_retire (times xs) j
     value_low r lt = omega (arith, keeps.known r lt, keeps.known_low r)
+
     values_low : operands bound (times xs) j ≤ last_retire (times xs) j
     values_low = omega (arith, value_low (slice_index (bound j).reads 0) low.rs1, value_low (slice_index (bound j).reads 1) low.rs2)
+
     known_after : (r : ℕ) → r < 256 → get_or (after_write ready (bound j).rd v.complete) r 0 ≡ ready_at bound (times (xs ++ v ∷ [])) (j + 1) r
     known_after r lt = elim (cases_eq r 0) [
       | inl zero_r ↦ write_other ready (bound j).rd v.complete r (λ e. e ∙ zero_r) ∙ keeps.known r lt ∙ ready_zero bound (times xs) j r zero_r ∙ sym (ready_zero bound (times (xs ++ v ∷ [])) (j + 1) r zero_r)
@@ -187,8 +199,10 @@ keeps_more R L bound xs ready j v le keeps next low = record {
             ∙ ready_along bound (times xs) (times (xs ++ v ∷ [])) j r older ∙ sym (ready_old bound (times (xs ++ v ∷ [])) j r other)
       ]
     ]
+
     last_later : last_retire (times xs) j ≤ last_retire (times (xs ++ v ∷ [])) (j + 1)
     last_later = omega (arith, last_after, next.retire)
+
     low_after : (r : ℕ) → get_or (after_write ready (bound j).rd v.complete) r 0 ≤ last_retire (times (xs ++ v ∷ [])) (j + 1)
     low_after r = elim (cases_eq (bound j).rd 0) [
       | inl none ↦ omega (arith, write_other ready (bound j).rd v.complete r (λ _. none), keeps.known_low r, last_later)
@@ -206,6 +220,7 @@ input_is R L body iterations some = λ i. record { machine = simple_machine R; r
   where
     size : length (map (simple_row L) body) ≡ length body
     size = length-map body (simple_row L)
+
     row_is : (k : ℕ) → get_or (map (simple_row L) body) (k % length (map (simple_row L) body)) no_row ≡ simple_row L (repeated body k)
     row_is k = ap (λ n. get_or (map (simple_row L) body) (k % n) no_row) size ∙ get_or-map (simple_row L) body (k % length body) no_bound no_row (mod_below k (length body) some)
 
@@ -232,7 +247,7 @@ pub keeps_added : (R L : ℕ) (body : List Bound) (xs ys : List Times) (ready af
 keeps_added R L body xs ys ready after j le keeps adds =
     subst (λ zs. KeepsRows R L (repeated body) zs after (j + 1)) (sym adds.rows)
     (subst (λ rs. KeepsRows R L (repeated body) (xs ++ adds.row ∷ []) rs (j + 1)) (sym adds.ready)
-      (keeps_more R L (repeated body) xs ready j adds.row le keeps (next_of R L body xs ready j adds.row keeps adds.small adds.next) adds.small))
+    (keeps_more R L (repeated body) xs ready j adds.row le keeps (next_of R L body xs ready j adds.row keeps adds.small adds.next) adds.small))
 
 -- before the first row
 

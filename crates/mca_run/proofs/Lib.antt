@@ -1,3 +1,5 @@
 pub mod Sums
 pub mod ClosedRun
 pub mod Kept
+pub mod Causes
+pub mod Outcomes

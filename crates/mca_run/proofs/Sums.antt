@@ -1,5 +1,5 @@
 -- Sums and tests over the numbers below a number.
-use Rattle.std.proofs.Common.{zero, suc, ◌≡◌, ℕ, ◌+◌, ◌-◌, ◌<◌, ◌≤◌, arith, refl, sym, subst, inl, inr, Bool, true, ◌&&◌}
+use Rattle.std.proofs.Common.{zero, suc, ◌≡◌, ℕ, ◌+◌, ◌-◌, ◌<◌, ◌≤◌, arith, refl, sym, subst, inl, inr, Bool, true}
 use Rattle.std.proofs.lemmas.Bool.{cases_lt}
 use Rattle.cycle_rules.specs.Below.{sum_below, all_below}
 

@@ -1,5 +1,5 @@
 -- The machine that is built so far, and an instruction on it, as values of the machine's record and of a row.
-use Rattle.std.specs.Prelude.{ℕ, ℤ, pos, negsuc, List, [], ◌∷◌, false, true, None, slice_index}
+use Rattle.std.specs.Prelude.{ℕ, pos, negsuc, [], ◌∷◌, false, true, None, slice_index}
 use Rattle.machine_model.specs.Meaning.{MachineMeaning}
 use Rattle.machine_model.specs.declared.kind.Kind.TheVariants.{Plain}
 use Rattle.cycle_rules.specs.Row.{Row, no_class}

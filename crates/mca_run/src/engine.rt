@@ -35,7 +35,11 @@ fn freed(rows: &[Times], reorder: usize) -> u64
     ensures { result ≡ freed reorder (times rows.now) (length rows.now) }
 {
     let j = rows.len();
-    if j < reorder { 0 } else { rows[j - reorder].retire }
+    if j < reorder {
+        0
+    } else {
+        rows[j - reorder].retire
+    }
 }
 
 /// The last retirement.

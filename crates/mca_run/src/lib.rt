@@ -1,4 +1,23 @@
-//! The tool as one call: words, files and tables in, a report or one line of error out.
+//! The tool as one call: the words of a command line, a shelf of files and two sinks in; the report or
+//! one line of error, and a status, out.
 #![tactic(auto)]
 
+ghost use Rattle.std.specs.Prelude.{◌≡◌, ℕ, List};
+ghost use Rattle.mca_run.specs.Refusal.{Contents, IsRefusal};
+ghost use Rattle.mca_run.specs.Report.{IsReport};
+ghost use Rattle.mca_run.specs.declared.status.Status.{Status as StatusOf};
+
 mod engine;
+mod report;
+mod status;
+mod top;
+
+pub use status::{LimitKind, Status, WordFault, WordKind};
+pub use top::analyse;
+
+/// Words and contents have at most one answer: one refusal, or one report, and never both.
+pub fn one_answer()
+    ensures refusal { (words : List (List ℕ)) (contents : Contents) (s t : StatusOf) → IsRefusal words contents s → IsRefusal words contents t → s ≡ t }
+    ensures report { (words : List (List ℕ)) (contents : Contents) (a b : List ℕ) → IsReport words contents a → IsReport words contents b → a ≡ b }
+    ensures not_both { (words : List (List ℕ)) (contents : Contents) (s : StatusOf) (a : List ℕ) → IsRefusal words contents s → IsReport words contents a → ⊥ }
+{}

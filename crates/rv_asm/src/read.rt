@@ -57,6 +57,7 @@ fn take_line(items: &mut Vec<Item>, line: u32, bytes: &[u8]) -> Result<(), AsmRe
 /// The items of all lines.
 fn take_lines(alloc: Global, text: &[u8]) -> Result<Vec<Item>, AsmRefusal>
     requires { length text.now ≤ 8388608 }
+    ensures few { IfOk result (λ items. length items.items ≤ 4096) }
     ensures ok { IfOk result (λ items. answer_from 1 4096 (lines_of text.now) ≡ Ok items.items) }
     ensures err { IfErr result (λ r. (r.kind ≡ Memory) ⊎ (answer_from 1 4096 (lines_of text.now) ≡ Err r)) }
 {
@@ -80,6 +81,8 @@ fn take_lines(alloc: Global, text: &[u8]) -> Result<Vec<Item>, AsmRefusal>
 pub fn read_asm(alloc: Global, text: &[u8]) -> Result<AsmText, AsmRefusal>
     requires { length text.now ≤ 8388608 }
     ensures program { IfOk result (λ asm. IsProgram text.now asm.items) }
+    ensures some { IfOk result (λ asm. 0 < length asm.items) }
+    ensures few { IfOk result (λ asm. length asm.items ≤ 4096) }
     ensures fault { IfErr result (λ r. (r.kind ≡ Memory) ⊎ IsFault text.now r) }
 {
     let items = take_lines(alloc, text)?;

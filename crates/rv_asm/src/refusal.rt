@@ -1,6 +1,6 @@
 //! Why an assembly text was refused.
-
-use std::fmt;
+ghost use Rattle.std.specs.Prelude.{◌≡◌};
+ghost use Rattle.rv_asm.specs.Kinds.{kind_name};
 
 /// A fault of an assembly text, and where it stands.
 #[derive(Clone, Copy, Debug, PartialEq, Eq)]
@@ -22,13 +22,15 @@ pub enum AsmKind {
     Memory,
 }
 
-/// The kind's name.
-impl fmt::Display for AsmKind {
-    fn fmt<W: fmt::Write>(&self, f: &mut fmt::Formatter<W>) -> fmt::Result {
-        f.write_str(match self {
+impl AsmKind {
+    /// The kind's name, as an error line prints it.
+    pub fn name(self) -> &'static str
+        ensures { result.now ≡ kind_name self }
+    {
+        match self {
             AsmKind::NotYet => "NotYet",
             AsmKind::NoInstruction => "NoInstruction",
             AsmKind::Memory => "Memory",
-        })
+        }
     }
 }

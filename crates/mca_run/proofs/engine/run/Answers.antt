@@ -1,4 +1,4 @@
-use Rattle.std.proofs.Common.{◌≡◌, ◌≤◌, ◌*◌, length, arith, subst, sym, ◌^◌, ◌<◌, ◌-◌}
+use Rattle.std.proofs.Common.{◌≡◌, ◌*◌, length, arith, subst, sym, ◌^◌, ◌<◌, ◌-◌}
 use Rattle.std.specs.Prelude.{map}
 use Rattle.cycle_rules.specs.Row.{times}
 use Rattle.cycle_rules.specs.Run.{IsRun}
@@ -26,9 +26,9 @@ pub returns-clause-run : goal.returns-clause-run
 returns-clause-run c =
     let ended : c.loop-j.j ≡ c.args.iterations * length c.args.body.now = omega arith in
     subst (IsRun (simple_machine c.args.machine.reorder) (map (simple_row c.args.machine.latency) c.args.body.now) c.args.iterations) (sym c.from_vec.ensures)
-      (kept_run c.args.machine.reorder c.args.machine.latency c.args.body.now c.args.iterations c.loop-j.rows.items c.loop-j.ready.items c.loop-j.j c.requires.reorder c.requires.body ended c.loop-j.invariant)
+    (kept_run c.args.machine.reorder c.args.machine.latency c.args.body.now c.args.iterations c.loop-j.rows.items c.loop-j.ready.items c.loop-j.j c.requires.reorder c.requires.body ended c.loop-j.invariant)
 
 pub returns-clause-low : goal.returns-clause-low
 returns-clause-low c =
     subst (λ xs. (times xs (length xs - 1)).retire < 2 ^ 60) (sym c.from_vec.ensures)
-      (last_small c.args.machine.reorder c.args.machine.latency (repeated c.args.body.now) c.loop-j.rows.items c.loop-j.ready.items c.loop-j.j c.requires.reorder c.requires.latency (omega (arith, c.requires.rows)) c.loop-j.invariant)
+    (last_small c.args.machine.reorder c.args.machine.latency (repeated c.args.body.now) c.loop-j.rows.items c.loop-j.ready.items c.loop-j.j c.requires.reorder c.requires.latency (omega (arith, c.requires.rows)) c.loop-j.invariant)

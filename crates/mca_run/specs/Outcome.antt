@@ -1,0 +1,95 @@
+-- What a call of the tool leaves: the bytes on the report's sink and on the errors' sink, by its status.
+use Rattle.std.specs.Prelude.{◌≡◌, ℕ, ◌<◌, ◌⊎◌, ⊤, List, length, take, Some, None}
+use Rattle.std.specs.declared.option.Option.{Option}
+use Rattle.std.specs.Io.KnownBytes.{Appends, Keeps}
+use Rattle.mca_io.specs.Devices.{Rose}
+use Rattle.rv_asm.specs.declared.text.Item.{Item}
+use Rattle.mca_run.specs.Lines.{line_of}
+use Rattle.mca_run.specs.Refusal.{Contents, IsRefusal, IsWordFault, input_of}
+use Rattle.mca_run.specs.Report.{IsInput, IsReport}
+use Rattle.mca_run.specs.declared.status.Status.{Status}
+use Rattle.mca_run.specs.declared.status.WordFault.{WordFault}
+use Rattle.mca_run.specs.declared.status.Status.TheVariants.{Done, ReadFault, WriteFault, Memory}
+
+-- a sink before and after a call: its bytes, where it tells them, and its count of faults
+pub record Sunk : Type 0 where
+  pub before : Option (List ℕ)
+  pub after : Option (List ℕ)
+  pub faults_before : ℕ
+  pub faults_after : ℕ
+
+abbrev pub sunk : Option (List ℕ) → Option (List ℕ) → ℕ → ℕ → Sunk
+sunk before after faults_before faults_after = record { before = before; after = after; faults_before = faults_before; faults_after = faults_after }
+
+abbrev pub IsKept : Sunk → Type 0
+IsKept s = Keeps s.before s.after
+
+abbrev pub Gets : Sunk → List ℕ → Type 0
+Gets s bytes = Appends s.before s.after bytes
+
+-- a proper front of the bytes came, and a fault was counted
+pub record GetsFront (s : Sunk) (bytes : List ℕ) : Type 0 where
+  pub count : ℕ
+  pub proper : count < length bytes
+  pub front : Gets s (take count bytes)
+  pub rose : Rose s.faults_before s.faults_after
+
+-- the status is told: nothing of a report, and its one line on the errors' sink
+pub record IsTold (out err : Sunk) (status : Status) : Type 0 where
+  pub kept : IsKept out
+  pub line : Gets err (line_of status)
+
+-- each status but those of the report is told
+abbrev pub TellsLine : Sunk → Sunk → Status → Type 0
+TellsLine out err Done = ⊤
+TellsLine out err WriteFault = ⊤
+TellsLine out err status = IsTold out err status
+
+-- the whole report came, and no error
+pub record IsReported (words : List (List ℕ)) (contents : Contents) (out err : Sunk) : Type 0 where
+  pub report : List ℕ
+  pub is : IsReport words contents report
+  pub bytes : Gets out report
+  pub no_error : IsKept err
+
+-- the report's sink failed: a proper front of the report came, and the line of the write fault, whole unless the errors' sink failed too
+pub record ReportFailed (words : List (List ℕ)) (contents : Contents) (out err : Sunk) : Type 0 where
+  pub report : List ℕ
+  pub is : IsReport words contents report
+  pub front : GetsFront out report
+  pub line : Gets err (line_of WriteFault) ⊎ GetsFront err (line_of WriteFault)
+
+-- a status that has a line may be the answer: a refusal that stands in the input, a read fault, or want of memory
+abbrev pub MayTell : List (List ℕ) → Contents → Status → Type 0
+MayTell words contents ReadFault = ⊤
+MayTell words contents Memory = ⊤
+MayTell words contents status = IsRefusal words contents status
+
+-- the errors' sink failed: of the line of such a status a proper front came
+pub record LineFailed (words : List (List ℕ)) (contents : Contents) (out err : Sunk) : Type 0 where
+  pub status : Status
+  pub may : MayTell words contents status
+  pub front : GetsFront err (line_of status)
+  pub kept : IsKept out
+
+-- a device failed, or there was no memory
+abbrev pub IsFailure : Status → Type 0
+IsFailure status = (status ≡ ReadFault) ⊎ ((status ≡ WriteFault) ⊎ (status ≡ Memory))
+
+-- the count of a file that the words name rose
+pub record NamedFault (words : List (List ℕ)) (faults_before faults_after : List ℕ → ℕ) : Type 0 where
+  pub name : List ℕ
+  pub named : input_of words ≡ Some name
+  pub rose : Rose (faults_before name) (faults_after name)
+
+-- what writing the line of a status left: the line of that status, that of want of memory, or a front of one of them
+abbrev pub LineWritten : Sunk → Status → Status → Type 0
+LineWritten err status result = ((result ≡ status) × Gets err (line_of status)) ⊎ (((result ≡ Memory) × Gets err (line_of Memory))
+    ⊎ ((result ≡ WriteFault) × ((s : Status) × ((s ≡ status) ⊎ (s ≡ Memory)) × GetsFront err (line_of s))))
+
+-- nothing but a failure stands in for the answer that words and contents have
+pub record IsComplete (words : List (List ℕ)) (contents : Contents) (result : Status) : Type 0 where
+  pub refused : (s : Status) → IsRefusal words contents s → (result ≡ s) ⊎ IsFailure result
+  pub words_first : (fault : WordFault) → IsWordFault words fault → result ≡ ReadFault → ⊥
+  pub absent : (name : List ℕ) → input_of words ≡ Some name → contents name ≡ None → IsFailure result
+  pub accepted : (items : List Item) → IsInput words contents items → (result ≡ Done) ⊎ IsFailure result

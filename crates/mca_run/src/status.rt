@@ -1,0 +1,133 @@
+//! How a call of the tool ends.
+ghost use Rattle.std.specs.Prelude.{◌≡◌, ◌++◌, IfOk, string_bytes, codes, decimal};
+ghost use Rattle.mca_run.specs.Lines.{line_of, number_of, word_kind_name, limit_kind_name};
+
+use mca_fixed::NoMemory;
+use rv_asm::AsmRefusal;
+use std::alloc::Global;
+
+/// A fault of the command line.
+#[derive(Clone, Copy, Debug, PartialEq, Eq)]
+pub struct WordFault {
+    /// The number of the word, from 1; 0 where all words are meant.
+    pub word: u64,
+    /// What is wrong there.
+    pub kind: WordKind,
+}
+
+/// The kinds of fault of the command line.
+#[derive(Clone, Copy, Debug, PartialEq, Eq)]
+pub enum WordKind {
+    /// The words are not the one name of a file, which is the only form that is built.
+    NotYet,
+}
+
+impl WordKind {
+    /// The kind's name, as an error line prints it.
+    pub fn name(self) -> &'static str
+        ensures { result.now ≡ word_kind_name self }
+    {
+        match self {
+            WordKind::NotYet => "NotYet",
+        }
+    }
+}
+
+/// The limits that an input can pass.
+#[derive(Clone, Copy, Debug, PartialEq, Eq)]
+pub enum LimitKind {
+    /// The bytes of the assembly, 8,388,608.
+    AssemblyBytes,
+}
+
+impl LimitKind {
+    /// The kind's name, as an error line prints it.
+    pub fn name(self) -> &'static str
+        ensures { result.now ≡ limit_kind_name self }
+    {
+        match self {
+            LimitKind::AssemblyBytes => "AssemblyBytes",
+        }
+    }
+}
+
+/// How a call of the tool ended.
+#[derive(Clone, Copy, Debug, PartialEq, Eq)]
+pub enum Status {
+    /// The whole report was written.
+    Done,
+    /// The command line was refused.
+    Words(WordFault),
+    /// The assembly was refused.
+    Assembly(AsmRefusal),
+    /// An input passed a limit, with the limit plus one.
+    Limit(LimitKind, u64),
+    /// A named file could not be read.
+    ReadFault,
+    /// The report, or the line of another status, could not be written.
+    WriteFault,
+    /// There was no memory.
+    Memory,
+}
+
+impl Status {
+    /// The status's number, with which the program ends: 0 for `Done`, 1 for the words, 2 for the
+    /// assembly, 5 for a limit, 6 and 7 for a device, 8 for want of memory.
+    pub fn number(&self) -> u8
+        ensures { result ≡ number_of self.now }
+    {
+        match self {
+            Status::Done => 0,
+            Status::Words(_) => 1,
+            Status::Assembly(_) => 2,
+            Status::Limit(_, _) => 5,
+            Status::ReadFault => 6,
+            Status::WriteFault => 7,
+            Status::Memory => 8,
+        }
+    }
+}
+
+/// A line of a number and a kind.
+fn kind_line(alloc: Global, head: &str, number: u64, kind: &str) -> Result<String, NoMemory>
+    ensures { IfOk result (λ text. string_bytes text ≡ head.now ++ decimal number ++ codes ": " ++ kind.now ++ codes "\n") }
+{
+    let mut text = String::from_str(alloc, head)?;
+    text.push_str(format!(in alloc; "{number}")?.as_str())?;
+    text.push_str(": ")?;
+    text.push_str(kind)?;
+    text.push_str("\n")?;
+    Ok(text)
+}
+
+/// The line of a limit.
+fn limit_line(alloc: Global, kind: &str, number: u64) -> Result<String, NoMemory>
+    ensures { IfOk result (λ text. string_bytes text ≡ codes "mca: limit " ++ kind.now ++ codes ": " ++ decimal number ++ codes "\n") }
+{
+    let mut text = String::from_str(alloc, "mca: limit ")?;
+    text.push_str(kind)?;
+    text.push_str(": ")?;
+    text.push_str(format!(in alloc; "{number}")?.as_str())?;
+    text.push_str("\n")?;
+    Ok(text)
+}
+
+/// The line that tells a status; none for `Done`.
+pub(crate) fn line(alloc: Global, status: Status) -> Result<String, NoMemory>
+    ensures { IfOk result (λ text. string_bytes text ≡ line_of status) }
+{
+    match status {
+        Status::Done => Ok(String::new(alloc)),
+        Status::Words(fault) => kind_line(alloc, "mca: word ", fault.word, fault.kind.name()),
+        Status::Assembly(refusal) => kind_line(
+            alloc,
+            "mca: assembly line ",
+            u64::from(refusal.line),
+            refusal.kind.name(),
+        ),
+        Status::Limit(kind, number) => limit_line(alloc, kind.name(), number),
+        Status::ReadFault => Ok(String::from_str(alloc, "mca: read fault\n")?),
+        Status::WriteFault => Ok(String::from_str(alloc, "mca: write fault\n")?),
+        Status::Memory => Ok(String::from_str(alloc, "mca: out of memory\n")?),
+    }
+}
