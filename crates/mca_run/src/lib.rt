@@ -21,3 +21,6 @@ pub fn one_answer()
     ensures report { (words : List (List ℕ)) (contents : Contents) (a b : List ℕ) → IsReport words contents a → IsReport words contents b → a ≡ b }
     ensures not_both { (words : List (List ℕ)) (contents : Contents) (s : StatusOf) (a : List ℕ) → IsRefusal words contents s → IsReport words contents a → ⊥ }
 {}
+
+#[cfg(test)]
+mod tests;
