@@ -1,0 +1,9 @@
+pub mod Answer
+pub mod FirstFault
+pub mod Gives
+pub mod Kinds
+pub mod Options
+pub mod Pieces
+pub mod Settings
+pub mod Table
+pub mod Values

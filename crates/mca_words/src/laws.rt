@@ -1,0 +1,13 @@
+//! What holds of the answers to a command line, apart from how it is read.
+ghost use Rattle.std.specs.Prelude.{◌≡◌, List, ℕ, Result};
+ghost use Rattle.mca_words.specs.Answer.{answer_of};
+ghost use Rattle.mca_words.specs.FirstFault.{IsAnswer};
+ghost use Rattle.mca_words.specs.declared.fault.WordFault.{WordFault as FaultOf};
+ghost use Rattle.mca_words.specs.declared.options.Options.{Options as OptionsOf};
+
+/// A law about the definitions: the answer that `read_words` gives is the answer to the words, and
+/// they have no other.
+pub fn one_answer()
+    ensures some { (words : List (List ℕ)) → IsAnswer words (answer_of words) }
+    ensures one { (words : List (List ℕ)) (a b : Result OptionsOf FaultOf) → IsAnswer words a → IsAnswer words b → a ≡ b }
+{}
