@@ -1,98 +1,112 @@
-//! A whole text of assembly.
-ghost use Rattle.std.specs.Prelude.{◌≡◌, ◌≤◌, ◌<◌, ◌+◌, ◌-◌, ◌++◌, [], ◌∷◌, ◌⊎◌, length, IfOk, IfErr, OnOk, Ok, Err, option_copied, vec_len};
-ghost use Rattle.rv_asm.specs.Program.{IsProgram, IsFault, Answer, lines_of, lines_left, size_left, with_items, answer_from};
-ghost use Rattle.rv_asm.specs.Take.{Takes};
-ghost use Rattle.rv_asm.specs.declared.refusal.AsmRefusal.{AsmRefusal as RefusalOf};
-ghost use Rattle.rv_asm.specs.declared.refusal.AsmKind.TheVariants.{Memory};
+//! The program of a text.
+ghost use Rattle.std.specs.Prelude.{◌≡◌, ◌⊎◌, ℕ, ◌+◌, ◌<◌, ◌≤◌, ◌^◌, length, List, None, Some, Err, IfOk};
+ghost use Rattle.rv_asm.specs.Pieces.{Piece, IsCut};
+ghost use Rattle.rv_asm.specs.Steps.{start, run};
+ghost use Rattle.rv_asm.specs.LongLines.{long_at, long_from};
+ghost use Rattle.rv_asm.specs.Faults.{IsMemory, refusal_of};
+ghost use Rattle.rv_asm.specs.Program.{IsProgram, IsFault};
+ghost use Rattle.rv_asm.specs.declared.fault.AsmRefusal.{AsmRefusal as Refusal};
 
-use crate::line::instruction;
-use crate::refusal::{AsmKind, AsmRefusal};
-use crate::text::{AsmText, Item};
-use mca_fixed::Items;
+use crate::fault::{AsmKind, AsmRefusal, Cause, Fault, kind_of};
+use crate::item::AsmText;
+use crate::pieces::{kind_at, piece_len};
+use crate::state::State;
+use mca_fixed::NoMemory;
 use std::alloc::Global;
 
-/// How many instructions a text may have.
-const MOST: usize = 4096;
+/// How many bytes a line has at most, the line feed not counted.
+const LONGEST: usize = 4096;
 
-/// The first line of a text, without its line feed, and what stands behind the line feed, where there is
-/// one.
-fn cut_line(text: &[u8]) -> (&[u8], Option<&[u8]>)
-    ensures lines { lines_of text.now ≡ result.0.now ∷ lines_left (option_copied result.1) }
-    ensures shorter { size_left (option_copied result.1) ≤ length text.now }
+/// Takes all pieces of a text, one after the other.
+fn cut_through(alloc: Global, text: &[u8]) -> Result<State, NoMemory>
+    requires { length text.now ≤ 8388608 }
+    ensures { IfOk result (λ s. (pieces : List Piece) × IsCut text.now pieces × (s ≡ run start pieces)) }
 {
-    for (k, b) in text.iter().enumerate() {
-        if *b == b'\n' {
-            return (&text[..k], Some(&text[k + 1..]));
-        }
+    let mut state = State::start(alloc);
+    let mut rest = text;
+    while !rest.is_empty() {
+        let strings = state.quotes(rest);
+        let kind = kind_at(strings, rest);
+        let (piece, after) = rest.split_at(piece_len(strings, kind, rest));
+        state.step(alloc, kind, piece)?;
+        rest = after;
     }
-    (text, None)
+    state.end(alloc)?;
+    Ok(state)
 }
 
-/// Takes one line's instruction, where it has one.
-fn take_line(items: &mut Vec<Item>, line: u32, bytes: &[u8]) -> Result<(), AsmRefusal>
-    requires { length items.old.items ≤ 4096 }
-    ensures few { length items.new.items ≤ 4096 }
-    ensures takes { Takes items.old.items items.new.items line bytes.now result }
+fn long_at(line: u32, count: usize) -> Option<Fault>
+    ensures { result ≡ long_at line count }
 {
-    if bytes.is_empty() {
-        return Ok(());
-    }
-    let refusal = AsmRefusal {
-        line,
-        kind: AsmKind::NotYet,
-    };
-    let instr = instruction(bytes).ok_or(refusal)?;
-    if items.len() >= MOST {
-        return Err(refusal);
-    }
-    if items.push(Item::Code(line, instr)).is_err() {
-        return Err(AsmRefusal {
+    if count > LONGEST {
+        return Some(Fault {
             line,
-            kind: AsmKind::Memory,
+            cause: Cause::LongLine,
         });
     }
-    Ok(())
+    None
 }
 
-/// The items of all lines.
-fn take_lines(alloc: Global, text: &[u8]) -> Result<Vec<Item>, AsmRefusal>
+/// The first line that is too long.
+fn long_line(text: &[u8]) -> Option<Fault>
     requires { length text.now ≤ 8388608 }
-    ensures few { IfOk result (λ items. length items.items ≤ 4096) }
-    ensures ok { IfOk result (λ items. answer_from 1 4096 (lines_of text.now) ≡ Ok items.items) }
-    ensures err { IfErr result (λ r. (r.kind ≡ Memory) ⊎ (answer_from 1 4096 (lines_of text.now) ≡ Err r)) }
+    ensures { result ≡ long_from 1 0 text.now }
 {
-    let mut items = Vec::new(alloc);
-    let mut line = 1u32;
-    let mut rest = Some(text);
-    while let Some(bytes) = rest {
-        let (first, after) = cut_line(bytes);
-        take_line(&mut items, line, first)?;
-        rest = after;
+    let mut line = 1;
+    let mut count = 0;
+    for (k, b) in text.iter().enumerate() {
+        if *b != b'\n' {
+            count += 1;
+            continue;
+        }
+        if count > LONGEST {
+            return long_at(line, count);
+        }
         line += 1;
+        count = 0;
     }
-    Ok(items)
+    long_at(line, count)
 }
 
-/// Reads a text of assembly, of at most 8,388,608 bytes.
-///
-/// Each line is empty or holds one instruction; the last one may lack its line feed. The refusal is that
-/// of the first line of another form, or of the 4,097th instruction; where no line is refused and there
-/// is no instruction, it is `NoInstruction` with line 0.
+fn no_memory() -> AsmRefusal
+    ensures { IsMemory result.kind }
+{
+    AsmRefusal {
+        line: 0,
+        kind: AsmKind::Memory,
+    }
+}
+
+/// Reads a text of at most 8,388,608 bytes: gives its program, or the fault that comes first, with its
+/// line from 1. The faults of a line are answered in this order: a line that is too long, a byte that
+/// stands in no text, the statements and the comments that begin there from left to right, a comment that
+/// is never closed. Never answers the kinds of regions or `NotYet`.
 pub fn read_asm(alloc: Global, text: &[u8]) -> Result<AsmText, AsmRefusal>
     requires { length text.now ≤ 8388608 }
-    ensures program { IfOk result (λ asm. IsProgram text.now asm.items) }
-    ensures some { IfOk result (λ asm. 0 < length asm.items) }
-    ensures few { IfOk result (λ asm. length asm.items ≤ 4096) }
-    ensures fault { IfErr result (λ r. (r.kind ≡ Memory) ⊎ IsFault text.now r) }
+    // What is read is the text's program.
+    ensures program { IfOk result (λ p. IsProgram text.now p.items p.names) }
+    // A refusal is want of memory, or the first fault of the text.
+    ensures fault { (r : Refusal) → result ≡ Err r → IsMemory r.kind ⊎ IsFault text.now r }
 {
-    let items = take_lines(alloc, text)?;
-    if items.is_empty() {
-        return Err(AsmRefusal {
-            line: 0,
-            kind: AsmKind::NoInstruction,
-        });
+    let state = match cut_through(alloc, text) {
+        Ok(state) => state,
+        Err(_) => return Err(no_memory()),
+    };
+    let long = long_line(text);
+    match state.first_fault(long) {
+        Some(fault) => Err(refusal_of(fault)),
+        None => match state.into_text(alloc) {
+            Ok(program) => Ok(program),
+            Err(_) => Err(no_memory()),
+        },
     }
-    Ok(AsmText {
-        items: Items::from_vec(items),
-    })
+}
+
+fn refusal_of(fault: Fault) -> AsmRefusal
+    ensures { result ≡ refusal_of fault }
+{
+    AsmRefusal {
+        line: fault.line,
+        kind: kind_of(fault.cause),
+    }
 }
