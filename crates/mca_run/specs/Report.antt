@@ -1,18 +1,19 @@
 -- The report: the summary of the one run of the text's instructions.
-use Rattle.std.specs.Prelude.{◌≡◌, ℕ, ◌-◌, ◌≤◌, max, List, [], ◌∷◌, ◌++◌, length, map, replicate, codes, decimal}
+use Rattle.std.specs.Prelude.{◌≡◌, ℕ, ◌-◌, ◌≤◌, max, List, ◌++◌, length, map, replicate, codes, decimal}
 use Rattle.cycle_rules.specs.Run.{IsRun, total_of}
 use Rattle.cycle_rules.specs.declared.bound.Bound.{Bound}
 use Rattle.cycle_rules.specs.declared.times.Times.{Times}
-use Rattle.rv_asm.specs.Program.{IsProgram}
-use Rattle.rv_asm.specs.declared.text.Item.{Item}
-use Rattle.rv_asm.specs.declared.text.Item.TheVariants.{Code}
-use Rattle.mca_run.specs.Refusal.{Contents, IsText, most_bytes}
+use Rattle.mca_words.specs.declared.options.Options.{Options}
+use Rattle.sched_records.specs.declared.records.Record.{Record}
+use Rattle.rv_asm.specs.declared.item.Item.{Item}
+use Rattle.rv_isa.specs.Instruction.{reads_of, writes_of}
+use Rattle.rv_isa.specs.declared.instr.Instr.{Instr}
+use Rattle.mca_run.specs.Items.{code_of}
+use Rattle.mca_run.specs.Asked.{IsAsked, iterations_of}
+use Rattle.mca_run.specs.Refusal.{Contents, IsInput, IsTable, rows_of, most_rows}
 use Rattle.mca_run.specs.Simple.{simple_machine, simple_row}
 
--- how often the text is repeated, the entries of the reorder buffer, and the latency of an instruction, so far
-abbrev pub iterations : ℕ
-iterations = 100
-
+-- the entries of the reorder buffer, and the latency of an instruction, so far
 abbrev pub reorder : ℕ
 reorder = 8
 
@@ -20,12 +21,12 @@ abbrev pub latency : ℕ
 latency = 1
 
 -- an instruction with the registers that it reads and writes
-abbrev pub bound_of : Item → Bound
-bound_of (Code line i) = record { reads = i.rs1 ∷ i.rs2 ∷ []; rd = i.rd }
+abbrev pub bound_of : Instr → Bound
+bound_of i = record { reads = reads_of i; rd = writes_of i }
 
--- a table is the run of these items
-abbrev pub IsItemsRun : List Item → List Times → Type 0
-IsItemsRun items table = IsRun (simple_machine reorder) (map (simple_row latency) (map bound_of items)) iterations table
+-- a table is the run of these instructions
+abbrev pub IsCodeRun : ℕ → List Instr → List Times → Type 0
+IsCodeRun iterations code table = IsRun (simple_machine reorder) (map (simple_row latency) (map bound_of code)) iterations table
 
 -- a label in a cell of 19 places, and a number
 abbrev pub summary_line : List ℕ → ℕ → List ℕ
@@ -34,21 +35,19 @@ summary_line label n = label ++ replicate (max 1 (19 - length label)) 32 ++ deci
 abbrev pub summary_lines : ℕ → ℕ → ℕ → List ℕ
 summary_lines iterations rows total = summary_line (codes "Iterations:") iterations ++ summary_line (codes "Instructions:") rows ++ summary_line (codes "Total Cycles:") total
 
--- the report on items: the summary of their run
-pub record IsItemsReport (items : List Item) (report : List ℕ) : Type 0 where
+-- the report on instructions: the summary of their run
+pub record IsCodeReport (iterations : ℕ) (code : List Instr) (report : List ℕ) : Type 0 where
   pub table : List Times
-  pub run : IsItemsRun items table
+  pub run : IsCodeRun iterations code table
   pub bytes : report ≡ summary_lines iterations (length table) (total_of table)
-
--- words and contents give these items: the named file is there, not too long, and a program
-pub record IsInput (words : List (List ℕ)) (contents : Contents) (items : List Item) : Type 0 where
-  pub text : List ℕ
-  pub is : IsText words contents text
-  pub short : length text ≤ most_bytes
-  pub program : IsProgram text items
 
 -- the report that words and contents ask for
 pub record IsReport (words : List (List ℕ)) (contents : Contents) (report : List ℕ) : Type 0 where
+  pub options : Options
+  pub asked : IsAsked words options
   pub items : List Item
-  pub input : IsInput words contents items
-  pub told : IsItemsReport items report
+  pub input : IsInput contents options items
+  pub records : List Record
+  pub table : IsTable contents options records
+  pub few : rows_of options items ≤ most_rows
+  pub told : IsCodeReport (iterations_of options) (code_of items) report

@@ -7,12 +7,17 @@ ghost use Rattle.mca_run.specs.Refusal.{Contents, IsRefusal};
 ghost use Rattle.mca_run.specs.Report.{IsReport};
 ghost use Rattle.mca_run.specs.declared.status.Status.{Status as StatusOf};
 
+mod asked;
 mod engine;
+mod files;
+mod items;
 mod report;
 mod status;
+#[cfg(test)]
+mod tests;
 mod top;
 
-pub use status::{LimitKind, Status, WordFault, WordKind};
+pub use status::{LimitKind, Status};
 pub use top::analyse;
 
 /// Words and contents have at most one answer: one refusal, or one report, and never both.
@@ -21,6 +26,3 @@ pub fn one_answer()
     ensures report { (words : List (List ℕ)) (contents : Contents) (a b : List ℕ) → IsReport words contents a → IsReport words contents b → a ≡ b }
     ensures not_both { (words : List (List ℕ)) (contents : Contents) (s : StatusOf) (a : List ℕ) → IsRefusal words contents s → IsReport words contents a → ⊥ }
 {}
-
-#[cfg(test)]
-mod tests;

@@ -1,43 +1,23 @@
 //! How a call of the tool ends.
 ghost use Rattle.std.specs.Prelude.{◌≡◌, ◌++◌, IfOk, string_bytes, codes, decimal};
-ghost use Rattle.mca_run.specs.Lines.{line_of, number_of, word_kind_name, limit_kind_name};
+ghost use Rattle.mca_words.specs.Kinds.{kind_name as word_kind_name};
+ghost use Rattle.mca_run.specs.Lines.{line_of, number_of, table_kind_name, limit_kind_name};
 
 use mca_fixed::NoMemory;
+use mca_words::{WordFault, WordKind};
 use rv_asm::AsmRefusal;
+use sched_records::{TableKind, TableRefusal};
 use std::alloc::Global;
-
-/// A fault of the command line.
-#[derive(Clone, Copy, Debug, PartialEq, Eq)]
-pub struct WordFault {
-    /// The number of the word, from 1; 0 where all words are meant.
-    pub word: u64,
-    /// What is wrong there.
-    pub kind: WordKind,
-}
-
-/// The kinds of fault of the command line.
-#[derive(Clone, Copy, Debug, PartialEq, Eq)]
-pub enum WordKind {
-    /// The words are not the one name of a file, which is the only form that is built.
-    NotYet,
-}
-
-impl WordKind {
-    /// The kind's name, as an error line prints it.
-    pub fn name(self) -> &'static str
-        ensures { result.now ≡ word_kind_name self }
-    {
-        match self {
-            WordKind::NotYet => "NotYet",
-        }
-    }
-}
 
 /// The limits that an input can pass.
 #[derive(Clone, Copy, Debug, PartialEq, Eq)]
 pub enum LimitKind {
     /// The bytes of the assembly, 8,388,608.
     AssemblyBytes,
+    /// The bytes of the table, 8,388,608.
+    TableBytes,
+    /// The rows of a run, instructions times iterations, 1,048,576.
+    RunSize,
 }
 
 impl LimitKind {
@@ -47,6 +27,8 @@ impl LimitKind {
     {
         match self {
             LimitKind::AssemblyBytes => "AssemblyBytes",
+            LimitKind::TableBytes => "TableBytes",
+            LimitKind::RunSize => "RunSize",
         }
     }
 }
@@ -60,7 +42,9 @@ pub enum Status {
     Words(WordFault),
     /// The assembly was refused.
     Assembly(AsmRefusal),
-    /// An input passed a limit, with the limit plus one.
+    /// The scheduling table was refused.
+    Table(TableRefusal),
+    /// An input passed a limit: a file, with the limit plus one; a run, with its rows.
     Limit(LimitKind, u64),
     /// A named file could not be read.
     ReadFault,
@@ -72,7 +56,7 @@ pub enum Status {
 
 impl Status {
     /// The status's number, with which the program ends: 0 for `Done`, 1 for the words, 2 for the
-    /// assembly, 5 for a limit, 6 and 7 for a device, 8 for want of memory.
+    /// assembly, 3 for the table, 5 for a limit, 6 and 7 for a device, 8 for want of memory.
     pub fn number(&self) -> u8
         ensures { result ≡ number_of self.now }
     {
@@ -80,11 +64,49 @@ impl Status {
             Status::Done => 0,
             Status::Words(_) => 1,
             Status::Assembly(_) => 2,
+            Status::Table(_) => 3,
             Status::Limit(_, _) => 5,
             Status::ReadFault => 6,
             Status::WriteFault => 7,
             Status::Memory => 8,
         }
+    }
+}
+
+/// The name of a kind of fault of the words.
+fn word_kind_name(kind: WordKind) -> &'static str
+    ensures { result.now ≡ word_kind_name kind }
+{
+    match kind {
+        WordKind::UnknownOption => "UnknownOption",
+        WordKind::Repeated => "Repeated",
+        WordKind::MissingValue => "MissingValue",
+        WordKind::BadNumber => "BadNumber",
+        WordKind::OutOfRange => "OutOfRange",
+        WordKind::UnknownMachine => "UnknownMachine",
+        WordKind::TwoMachines => "TwoMachines",
+        WordKind::TooManyInputs => "TooManyInputs",
+        WordKind::NoInput => "NoInput",
+        WordKind::NoMachine => "NoMachine",
+        WordKind::NotYet => "NotYet",
+        WordKind::Memory => "Memory",
+    }
+}
+
+/// The name of a kind of fault of a table.
+fn table_kind_name(kind: TableKind) -> &'static str
+    ensures { result.now ≡ table_kind_name kind }
+{
+    match kind {
+        TableKind::Syntax => "Syntax",
+        TableKind::NotFlat => "NotFlat",
+        TableKind::UnknownRecord => "UnknownRecord",
+        TableKind::UnknownField => "UnknownField",
+        TableKind::BadValue => "BadValue",
+        TableKind::RepeatedField => "RepeatedField",
+        TableKind::RepeatedName => "RepeatedName",
+        TableKind::TooMany => "TooMany",
+        TableKind::Memory => "Memory",
     }
 }
 
@@ -118,12 +140,20 @@ pub(crate) fn line(alloc: Global, status: Status) -> Result<String, NoMemory>
 {
     match status {
         Status::Done => Ok(String::new(alloc)),
-        Status::Words(fault) => kind_line(alloc, "mca: word ", fault.word, fault.kind.name()),
+        Status::Words(fault) => {
+            kind_line(alloc, "mca: word ", fault.word, word_kind_name(fault.kind))
+        }
         Status::Assembly(refusal) => kind_line(
             alloc,
             "mca: assembly line ",
             u64::from(refusal.line),
             refusal.kind.name(),
+        ),
+        Status::Table(refusal) => kind_line(
+            alloc,
+            "mca: table line ",
+            u64::from(refusal.line),
+            table_kind_name(refusal.kind),
         ),
         Status::Limit(kind, number) => limit_line(alloc, kind.name(), number),
         Status::ReadFault => Ok(String::from_str(alloc, "mca: read fault\n")?),

@@ -1,7 +1,6 @@
 //! Whole commands over devices in memory: the bytes and the status for worked inputs, with memory to be had.
-use crate::{LimitKind, Status, WordFault, WordKind, analyse};
+use crate::{LimitKind, Status, analyse};
 use mca_io::{MemShelf, MemSink};
-use rv_asm::{AsmKind, AsmRefusal};
 use std::alloc::Global;
 use std::process::Abort;
 use std::test::Fail;
@@ -14,24 +13,25 @@ struct Left {
     err: MemSink,
 }
 
-/// Runs a command on one file `a.s`, with so much room and so many bytes a write for each sink, and the
-/// numbers of the calls that fail.
+/// Runs a command on a shelf of `a.s` and `b.td`, with so much room and so many bytes a write for each
+/// sink, and the numbers of the calls that fail. The words have blanks between.
 fn command(
     alloc: Global,
-    words: &[&str],
-    text: &[u8],
+    words: &str,
+    files: (&[u8], &[u8]),
     shelf_fails: &[u64],
     out: (usize, usize, &[u64]),
     err: (usize, usize, &[u64]),
     rt: &impl Abort,
 ) -> Result<Left, Fail> {
     let mut shelf = MemShelf::make(alloc, 4096, shelf_fails)?;
-    shelf.add_file("a.s", text)?;
+    shelf.add_file("a.s", files.0)?;
+    shelf.add_file("b.td", files.1)?;
     assert!(rt; out.1 > 0 && err.1 > 0);
     let mut report = MemSink::make(alloc, out.0, out.1, out.2)?;
     let mut errors = MemSink::make(alloc, err.0, err.1, err.2)?;
     let mut given = Vec::new(alloc);
-    for word in words {
+    for word in words.split(' ') {
         given.push(String::from_str(alloc, word)?)?;
     }
     let status = analyse(alloc, &given, &mut shelf, &mut report, &mut errors);
@@ -42,112 +42,238 @@ fn command(
     })
 }
 
+/// Runs a command with ample room, and compares what it left.
+fn compare(
+    alloc: Global,
+    words: &str,
+    files: (&str, &str),
+    left: (u8, &str, &str),
+    rt: &impl Abort,
+) -> Result<(), Fail> {
+    let bytes = (files.0.as_bytes(), files.1.as_bytes());
+    let run = command(alloc, words, bytes, &[], AMPLE, AMPLE, rt)?;
+    assert_eq!(rt; run.out.written(), left.1.as_bytes(), "{words} {files:?}");
+    assert_eq!(rt; run.err.written(), left.2.as_bytes(), "{words} {files:?}");
+    assert_eq!(rt; run.status.number(), left.0);
+    Ok(())
+}
+
 const AMPLE: (usize, usize, &[u64]) = (10_000, 10_000, &[]);
 
-const ONE_ADD: &str = "Iterations:        100\nInstructions:      100\nTotal Cycles:      103\n";
+const BOTH: &str = "-table=b.td a.s";
+
+const TABLE: &str =
+    "def M : SchedMachineModel { let IssueWidth = 1; let MicroOpBufferSize = 8; }\ndef : WriteRes<WriteIALU, []>;\n";
+
+const ADD: &str = "add a0, a0, a0\n";
+
+/// An assembly, the status's number, the report and the line of error.
+const ASSEMBLIES: [(&str, u8, &str, &str); 13] = [
+    (
+        "add a0, a0, a0\n",
+        0,
+        "Iterations:        100\nInstructions:      100\nTotal Cycles:      103\n",
+        "",
+    ),
+    (
+        "add a0, a0, a0\nadd zero, a0, a0\nadd a1, zero, zero",
+        0,
+        "Iterations:        100\nInstructions:      300\nTotal Cycles:      303\n",
+        "",
+    ),
+    (
+        "li a0, 0x12345678\ncall f\n",
+        0,
+        "Iterations:        100\nInstructions:      400\nTotal Cycles:      403\n",
+        "",
+    ),
+    (
+        "addi a0, a0, 2047\n",
+        0,
+        "Iterations:        100\nInstructions:      100\nTotal Cycles:      103\n",
+        "",
+    ),
+    (
+        "add a0, a0, a0\nc.addi a0, 1\n",
+        2,
+        "",
+        "mca: assembly line 2: Compressed\n",
+    ),
+    (
+        "add a0, a0, a0\n.macro f\n",
+        2,
+        "",
+        "mca: assembly line 2: RefusedDirective\n",
+    ),
+    (
+        "add a0, a0, a0\naddi a0, a0, 2048\n",
+        2,
+        "",
+        "mca: assembly line 2: ImmediateRange\n",
+    ),
+    (
+        "frobnicate\n",
+        2,
+        "",
+        "mca: assembly line 1: UnknownMnemonic\n",
+    ),
+    (
+        "\n# LLVM-MCA-BEGIN x\nnop\n",
+        2,
+        "",
+        "mca: assembly line 2: NotYet\n",
+    ),
+    (
+        "nop\n# LLVM-MCA-END\n",
+        2,
+        "",
+        "mca: assembly line 2: NotYet\n",
+    ),
+    ("", 2, "", "mca: assembly line 0: NoInstruction\n"),
+    (
+        ".text\nf:\n",
+        2,
+        "",
+        "mca: assembly line 0: NoInstruction\n",
+    ),
+    (
+        "add a0, a0, a0\0\n",
+        2,
+        "",
+        "mca: assembly line 1: BadByte\n",
+    ),
+];
+
+/// Words, and the same.
+const WORDS: [(&str, u8, &str, &str); 15] = [
+    ("-table=b.td", 1, "", "mca: word 2: NoInput\n"),
+    ("a.s", 1, "", "mca: word 2: NoMachine\n"),
+    ("-iterations=x a.s", 1, "", "mca: word 1: BadNumber\n"),
+    ("-timeline -timeline a.s", 1, "", "mca: word 2: Repeated\n"),
+    ("-mcpu=huge a.s", 1, "", "mca: word 1: UnknownMachine\n"),
+    ("a.s a.s", 1, "", "mca: word 2: TooManyInputs\n"),
+    ("--help", 1, "", "mca: word 1: UnknownOption\n"),
+    (
+        "-table=b.td -dispatch=2 a.s",
+        1,
+        "",
+        "mca: word 0: NotYet\n",
+    ),
+    ("-table=b.td a.s -timeline", 1, "", "mca: word 0: NotYet\n"),
+    (
+        "-table=b.td a.s -noalias=false",
+        1,
+        "",
+        "mca: word 0: NotYet\n",
+    ),
+    (
+        "-iterations=1 --table b.td a.s",
+        0,
+        "Iterations:        1\nInstructions:      1\nTotal Cycles:      4\n",
+        "",
+    ),
+    (
+        "-table=b.td -dispatch=0 -timeline=false -iterations=0 a.s",
+        0,
+        "Iterations:        100\nInstructions:      100\nTotal Cycles:      103\n",
+        "",
+    ),
+    ("-table=b.td b.s", 6, "", "mca: read fault\n"),
+    ("-table=c.td a.s", 6, "", "mca: read fault\n"),
+    ("-table=b.td ", 6, "", "mca: read fault\n"),
+];
+
+/// A table, and the same.
+const TABLES: [(&str, u8, &str, &str); 4] = [
+    (
+        "def P : ProcResource<1>;\n\ndef : WriteRes<WriteIALU, [P,\n",
+        3,
+        "",
+        "mca: table line 4: Syntax\n",
+    ),
+    (
+        "\ndef P : ProcUnit<1>;\n",
+        3,
+        "",
+        "mca: table line 2: UnknownRecord\n",
+    ),
+    (
+        "def P : ProcResource<1>;\ndef P : ProcResource<2>;\n",
+        3,
+        "",
+        "mca: table line 2: RepeatedName\n",
+    ),
+    (
+        "",
+        0,
+        "Iterations:        100\nInstructions:      100\nTotal Cycles:      103\n",
+        "",
+    ),
+];
 
 #[test]
-fn each_command_has_its_status_and_its_bytes(rt: HostRuntime) -> Result<(), Fail> {
-    let not_yet = Status::Words(WordFault {
-        word: 0,
-        kind: WordKind::NotYet,
-    });
-    let at = |line: u32, kind: AsmKind| Status::Assembly(AsmRefusal { line, kind });
-    let cases: [(&[&str], &str, Status, u8, &str, &str); 9] = [
-        (&["a.s"], "add a0, a0, a0\n", Status::Done, 0, ONE_ADD, ""),
-        (
-            &["a.s"],
-            "add a0, a0, a0\nadd zero, a0, a0\nadd a1, zero, zero",
-            Status::Done,
-            0,
-            "Iterations:        100\nInstructions:      300\nTotal Cycles:      303\n",
-            "",
-        ),
-        (
-            &["a.s"],
-            "sub a0, a0, a0\n",
-            at(1, AsmKind::NotYet),
-            2,
-            "",
-            "mca: assembly line 1: NotYet\n",
-        ),
-        (
-            &["a.s"],
-            "",
-            at(0, AsmKind::NoInstruction),
-            2,
-            "",
-            "mca: assembly line 0: NoInstruction\n",
-        ),
-        (
-            &["b.s"],
-            "add a0, a0, a0\n",
-            Status::ReadFault,
-            6,
-            "",
-            "mca: read fault\n",
-        ),
-        (
-            &[""],
-            "add a0, a0, a0\n",
-            Status::ReadFault,
-            6,
-            "",
-            "mca: read fault\n",
-        ),
-        (
-            &[],
-            "add a0, a0, a0\n",
-            not_yet,
-            1,
-            "",
-            "mca: word 0: NotYet\n",
-        ),
-        (
-            &["-timeline"],
-            "add a0, a0, a0\n",
-            not_yet,
-            1,
-            "",
-            "mca: word 0: NotYet\n",
-        ),
-        (
-            &["a.s", "a.s"],
-            "add a0, a0, a0\n",
-            not_yet,
-            1,
-            "",
-            "mca: word 0: NotYet\n",
-        ),
-    ];
-    for (words, text, status, number, out, err) in cases {
-        let left = command(rt.alloc(), words, text.as_bytes(), &[], AMPLE, AMPLE, &rt)?;
-        assert_eq!(rt; left.status, status, "{words:?} {text:?}");
-        assert_eq!(rt; left.status.number(), number);
-        assert_eq!(rt; left.out.written(), out.as_bytes());
-        assert_eq!(rt; left.err.written(), err.as_bytes());
+fn each_assembly_has_its_status_and_its_bytes(rt: HostRuntime) -> Result<(), Fail> {
+    for (asm, number, out, err) in &ASSEMBLIES {
+        compare(rt.alloc(), BOTH, (asm, TABLE), (*number, out, err), &rt)?;
     }
     Ok(())
 }
 
 #[test]
+fn each_command_line_has_its_status_and_its_bytes(rt: HostRuntime) -> Result<(), Fail> {
+    for (words, number, out, err) in &WORDS {
+        compare(rt.alloc(), words, (ADD, TABLE), (*number, out, err), &rt)?;
+    }
+    Ok(())
+}
+
+#[test]
+fn each_table_has_its_status_and_its_bytes(rt: HostRuntime) -> Result<(), Fail> {
+    for (table, number, out, err) in &TABLES {
+        compare(rt.alloc(), BOTH, (ADD, table), (*number, out, err), &rt)?;
+    }
+    // The assembly is read first.
+    let line = "mca: assembly line 1: UnknownMnemonic\n";
+    compare(
+        rt.alloc(),
+        BOTH,
+        ("frobnicate\n", "def"),
+        (2, "", line),
+        &rt,
+    )
+}
+
+#[test]
+fn no_words_name_no_file(rt: HostRuntime) -> Result<(), Fail> {
+    let mut shelf = MemShelf::make(rt.alloc(), 4096, &[])?;
+    let mut out = MemSink::make(rt.alloc(), 100, 100, &[])?;
+    let mut err = MemSink::make(rt.alloc(), 100, 100, &[])?;
+    let none = Vec::new(rt.alloc());
+    let status = analyse(rt.alloc(), &none, &mut shelf, &mut out, &mut err);
+    assert_eq!(rt; status.number(), 1);
+    assert_eq!(rt; out.written(), b"".as_slice());
+    assert_eq!(rt; err.written(), b"mca: word 1: NoInput\n".as_slice());
+    Ok(())
+}
+
+#[test]
 fn a_report_that_fails_leaves_its_front_and_a_line(rt: HostRuntime) -> Result<(), Fail> {
-    let text = b"add a0, a0, a0\n";
-    let left = command(rt.alloc(), &["a.s"], text, &[], (100, 10, &[2]), AMPLE, &rt)?;
+    let files = (ADD.as_bytes(), TABLE.as_bytes());
+    let left = command(rt.alloc(), BOTH, files, &[], (100, 10, &[2]), AMPLE, &rt)?;
     assert_eq!(rt; left.status, Status::WriteFault);
     assert_eq!(rt; left.status.number(), 7);
     assert_eq!(rt; left.out.written(), b"Iterations".as_slice());
     assert_eq!(rt; left.out.faults(), 1);
     assert_eq!(rt; left.err.written(), b"mca: write fault\n".as_slice());
     // A full sink is one that fails.
-    let full = command(rt.alloc(), &["a.s"], text, &[], (30, 100, &[]), AMPLE, &rt)?;
+    let full = command(rt.alloc(), BOTH, files, &[], (30, 100, &[]), AMPLE, &rt)?;
     assert_eq!(rt; full.status, Status::WriteFault);
     assert_eq!(rt; full.out.written().len(), 30);
     // And the line may fail too.
     let both = command(
         rt.alloc(),
-        &["a.s"],
-        text,
+        BOTH,
+        files,
         &[],
         (30, 100, &[]),
         (100, 5, &[2]),
@@ -160,7 +286,15 @@ fn a_report_that_fails_leaves_its_front_and_a_line(rt: HostRuntime) -> Result<()
 
 #[test]
 fn a_line_that_fails_is_a_write_fault(rt: HostRuntime) -> Result<(), Fail> {
-    let left = command(rt.alloc(), &[], b"", &[], AMPLE, (100, 100, &[1]), &rt)?;
+    let left = command(
+        rt.alloc(),
+        "a.s",
+        (b"", b""),
+        &[],
+        AMPLE,
+        (100, 100, &[1]),
+        &rt,
+    )?;
     assert_eq!(rt; left.status, Status::WriteFault);
     assert_eq!(rt; left.out.written(), b"".as_slice());
     assert_eq!(rt; left.err.written(), b"".as_slice());
@@ -170,9 +304,10 @@ fn a_line_that_fails_is_a_write_fault(rt: HostRuntime) -> Result<(), Fail> {
 
 #[test]
 fn a_read_that_fails_in_mid_stream_is_a_read_fault(rt: HostRuntime) -> Result<(), Fail> {
-    for call in [1, 2, 3] {
-        let text = b"add a0, a0, a0\n";
-        let left = command(rt.alloc(), &["a.s"], text, &[call], AMPLE, AMPLE, &rt)?;
+    // The first call opens the assembly; two reads and the opening of the table follow.
+    for call in [1, 2, 3, 4, 5, 6] {
+        let files = (ADD.as_bytes(), TABLE.as_bytes());
+        let left = command(rt.alloc(), BOTH, files, &[call], AMPLE, AMPLE, &rt)?;
         assert_eq!(rt; left.status, Status::ReadFault, "{call}");
         assert_eq!(rt; left.out.written(), b"".as_slice());
         assert_eq!(rt; left.err.written(), b"mca: read fault\n".as_slice());
@@ -181,9 +316,50 @@ fn a_read_that_fails_in_mid_stream_is_a_read_fault(rt: HostRuntime) -> Result<()
 }
 
 #[test]
+fn the_4097th_instruction_is_refused(rt: HostRuntime) -> Result<(), Fail> {
+    let mut text = Vec::new(rt.alloc());
+    for _ in 0..4096 {
+        text.extend_from_slice(b"nop\n")?;
+    }
+    let most = command(
+        rt.alloc(),
+        BOTH,
+        (&text, TABLE.as_bytes()),
+        &[],
+        AMPLE,
+        AMPLE,
+        &rt,
+    )?;
+    assert_eq!(rt; most.status, Status::Done);
+    text.extend_from_slice(b"\nnop\n")?;
+    let over = command(
+        rt.alloc(),
+        BOTH,
+        (&text, TABLE.as_bytes()),
+        &[],
+        AMPLE,
+        AMPLE,
+        &rt,
+    )?;
+    assert_eq!(rt;
+        over.err.written(),
+        b"mca: assembly line 4098: RegionTooLong\n".as_slice()
+    );
+    Ok(())
+}
+
+#[test]
 fn a_text_past_the_limit_is_refused(rt: HostRuntime) -> Result<(), Fail> {
     let long = vec![in rt.alloc(); b'\n'; 8_388_609]?;
-    let left = command(rt.alloc(), &["a.s"], &long, &[], AMPLE, AMPLE, &rt)?;
+    let left = command(
+        rt.alloc(),
+        BOTH,
+        (&long, TABLE.as_bytes()),
+        &[],
+        AMPLE,
+        AMPLE,
+        &rt,
+    )?;
     assert_eq!(rt;
         left.status,
         Status::Limit(LimitKind::AssemblyBytes, 8_388_609)
@@ -192,7 +368,59 @@ fn a_text_past_the_limit_is_refused(rt: HostRuntime) -> Result<(), Fail> {
         left.err.written(),
         b"mca: limit AssemblyBytes: 8388609\n".as_slice()
     );
-    let most = command(rt.alloc(), &["a.s"], &long[1..], &[], AMPLE, AMPLE, &rt)?;
+    let most = command(
+        rt.alloc(),
+        BOTH,
+        (&long[1..], TABLE.as_bytes()),
+        &[],
+        AMPLE,
+        AMPLE,
+        &rt,
+    )?;
     assert_eq!(rt; most.status.number(), 2);
+    Ok(())
+}
+
+#[test]
+fn a_table_past_the_limit_is_refused(rt: HostRuntime) -> Result<(), Fail> {
+    let long = vec![in rt.alloc(); b'\n'; 8_388_609]?;
+    let left = command(
+        rt.alloc(),
+        BOTH,
+        (ADD.as_bytes(), &long),
+        &[],
+        AMPLE,
+        AMPLE,
+        &rt,
+    )?;
+    assert_eq!(rt;
+        left.status,
+        Status::Limit(LimitKind::TableBytes, 8_388_609)
+    );
+    assert_eq!(rt; left.status.number(), 5);
+    assert_eq!(rt;
+        left.err.written(),
+        b"mca: limit TableBytes: 8388609\n".as_slice()
+    );
+    Ok(())
+}
+
+#[test]
+fn a_run_past_the_limit_is_refused(rt: HostRuntime) -> Result<(), Fail> {
+    let mut text = Vec::new(rt.alloc());
+    for _ in 0..4096 {
+        text.extend_from_slice(b"nop\n")?;
+    }
+    let files = (text.as_slice(), TABLE.as_bytes());
+    let words = "-table=b.td -iterations=257 a.s";
+    let over = command(rt.alloc(), words, files, &[], AMPLE, AMPLE, &rt)?;
+    assert_eq!(rt; over.status, Status::Limit(LimitKind::RunSize, 1_052_672));
+    assert_eq!(rt;
+        over.err.written(),
+        b"mca: limit RunSize: 1052672\n".as_slice()
+    );
+    let words = "-table=b.td -iterations=256 a.s";
+    let most = command(rt.alloc(), words, files, &[], AMPLE, AMPLE, &rt)?;
+    assert_eq!(rt; most.status, Status::Done);
     Ok(())
 }

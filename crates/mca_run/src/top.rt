@@ -1,64 +1,25 @@
 //! The top call: all that the program does.
-ghost use Rattle.std.specs.Prelude.{◌≡◌, ◌≤◌, ◌<◌, ◌⊎◌, ℕ, List, map, length, IfOk, IfErr, OnOk, Err, option_map, string_bytes};
+ghost use Rattle.std.specs.Prelude.{◌≡◌, ◌⊎◌, ℕ, List, map, IfOk, IfErr, OnOk, Err, string_bytes};
 ghost use Rattle.std.specs.Io.KnownBytes.{IsAtEnd};
 ghost use Rattle.mca_io.specs.Devices.{Rose};
-ghost use Rattle.mca_run.specs.Refusal.{Contents, Tells, IsWordFault, IsAsmRefusal, IsTooLong, input_of};
-ghost use Rattle.mca_run.specs.Report.{IsInput, IsReport};
-ghost use Rattle.mca_run.specs.Outcome.{sunk, IsTold, TellsLine, IsReported, ReportFailed, LineFailed, MayTell, NamedFault, LineWritten, IsComplete};
-ghost use Rattle.mca_run.specs.declared.status.WordFault.{WordFault as WordFaultOf};
+ghost use Rattle.mca_run.specs.Asked.{IsWordFault};
+ghost use Rattle.mca_run.specs.Refusal.{Contents, Tells, IsRefusal};
+ghost use Rattle.mca_run.specs.Report.{IsReport};
+ghost use Rattle.mca_run.specs.Outcome.{sunk, IsTold, TellsLine, IsReported, ReportFailed, LineFailed, MayTell, NamedFault, NamedInOrder, LineWritten, IsComplete};
 ghost use Rattle.mca_run.specs.declared.status.LimitKind.{LimitKind as LimitOf};
-ghost use Rattle.rv_asm.specs.declared.refusal.AsmRefusal.{AsmRefusal as AsmRefusalOf};
+ghost use Rattle.mca_words.specs.declared.fault.WordFault.{WordFault as WordFaultOf};
+ghost use Rattle.rv_asm.specs.declared.fault.AsmRefusal.{AsmRefusal as AsmRefusalOf};
+ghost use Rattle.sched_records.specs.declared.refusal.TableRefusal.{TableRefusal as TableRefusalOf};
 
+use crate::asked::{asked, iterations};
+use crate::files::{read_assembly, read_records};
 use crate::report::report_on;
-use crate::status::{LimitKind, Status, WordFault, WordKind, line};
-use mca_io::{Failed, ReadFault, Shelf, Sink, read_named, write_whole};
-use rv_asm::{AsmKind, AsmText, read_asm};
+use crate::status::{LimitKind, Status, line};
+use mca_io::{Failed, Shelf, Sink, write_whole};
 use std::alloc::Global;
 
-/// The most bytes of an assembly.
-const MOST_BYTES: usize = 8_388_608;
-
-/// The name of the input: the one word, where it is no option.
-fn input<'a>(words: &'a [String]) -> Option<&'a str>
-    ensures { option_map (λ name. name.now) result ≡ input_of (map string_bytes words.entry.now) }
-{
-    match words {
-        [word] if !word.as_str().as_bytes().starts_with(b"-") => Some(word.as_str()),
-        _ => None,
-    }
-}
-
-/// Reads the named file as assembly.
-fn read_input<F: Shelf>(alloc: Global, words: &[String], shelf: &mut F) -> Result<AsmText, Status>
-    ensures ok { IfOk result (λ asm. (contents : Contents) → Tells (F.told shelf.old) contents → IsInput (map string_bytes words.now) contents asm.items) }
-    ensures some { IfOk result (λ asm. 0 < length asm.items) }
-    ensures few { IfOk result (λ asm. length asm.items ≤ 4096) }
-    ensures end { OnOk result (IsAtEnd (F.rest shelf.new)) }
-    ensures err { IfErr result (λ status. (contents : Contents) → Tells (F.told shelf.old) contents → MayTell (map string_bytes words.now) contents status) }
-    ensures words { (fault : WordFaultOf) → result ≡ Err (Status.Words fault) → IsWordFault (map string_bytes words.now) fault }
-    ensures not_done { result ≡ Err Status.Done → ⊥ }
-    ensures not_write { result ≡ Err Status.WriteFault → ⊥ }
-    ensures fault { result ≡ Err Status.ReadFault → NamedFault (map string_bytes words.now) (F.faults shelf.old) (F.faults shelf.new) }
-{
-    let Some(name) = input(words) else {
-        return Err(Status::Words(WordFault {
-            word: 0,
-            kind: WordKind::NotYet,
-        }));
-    };
-    match read_named(alloc, shelf, name, MOST_BYTES) {
-        Err(ReadFault::Failed) => Err(Status::ReadFault),
-        Err(ReadFault::TooLong) => Err(Status::Limit(LimitKind::AssemblyBytes, 8_388_609)),
-        Err(ReadFault::Memory) => Err(Status::Memory),
-        Ok(text) => match read_asm(alloc, &text) {
-            Ok(asm) => Ok(asm),
-            Err(refusal) => match refusal.kind {
-                AsmKind::Memory => Err(Status::Memory),
-                _ => Err(Status::Assembly(refusal)),
-            },
-        },
-    }
-}
+/// The most rows of a run.
+const MOST_ROWS: u64 = 1_048_576;
 
 /// Makes the report, or tells why there is none.
 fn work<F: Shelf>(alloc: Global, words: &[String], shelf: &mut F) -> Result<String, Status>
@@ -69,9 +30,26 @@ fn work<F: Shelf>(alloc: Global, words: &[String], shelf: &mut F) -> Result<Stri
     ensures not_done { result ≡ Err Status.Done → ⊥ }
     ensures not_write { result ≡ Err Status.WriteFault → ⊥ }
     ensures fault { result ≡ Err Status.ReadFault → NamedFault (map string_bytes words.now) (F.faults shelf.old) (F.faults shelf.new) }
+    ensures in_order { (contents : Contents) → Tells (F.told shelf.old) contents → result ≡ Err Status.ReadFault → NamedInOrder (map string_bytes words.now) contents (F.faults shelf.old) (F.faults shelf.new) }
 {
-    let asm = read_input(alloc, words, shelf)?;
-    match report_on(alloc, asm.items.as_slice()) {
+    let options = match asked(alloc, words) {
+        Ok(options) => options,
+        Err(status) => return Err(status),
+    };
+    let asm = match read_assembly(alloc, &options, shelf) {
+        Ok(asm) => asm,
+        Err(status) => return Err(status),
+    };
+    let _records = match read_records(alloc, &options, shelf) {
+        Ok(records) => records,
+        Err(status) => return Err(status),
+    };
+    let iterations = iterations(&options);
+    let rows = u64::from(iterations) * asm.items.len() as u64;
+    if rows > MOST_ROWS {
+        return Err(Status::Limit(LimitKind::RunSize, rows));
+    }
+    match report_on(alloc, asm.items.as_slice(), iterations) {
         Ok(text) => Ok(text),
         Err(_) => Err(Status::Memory),
     }
@@ -93,8 +71,8 @@ fn tell<E: Sink>(alloc: Global, err: &mut E, status: Status) -> Status
     }
 }
 
-/// The whole tool. `words` are those of the command line, without the program's name; the one form that
-/// is built is the name of an assembly file. The report goes to `out`, one line of error to `err`.
+/// The whole tool. `words` are those of the command line, without the program's name: options, and the
+/// name of an assembly file. The report goes to `out`, one line of error to `err`.
 pub fn analyse<F: Shelf, O: Sink, E: Sink>(
     alloc: Global,
     words: &[String],
@@ -105,12 +83,16 @@ pub fn analyse<F: Shelf, O: Sink, E: Sink>(
     // Each refusal stands in the input.
     ensures words { (fault : WordFaultOf) → result ≡ Status.Words fault → IsWordFault (map string_bytes words.now) fault }
     ensures assembly { (contents : Contents) → Tells (F.told shelf.old) contents →
-        (refusal : AsmRefusalOf) → result ≡ Status.Assembly refusal → IsAsmRefusal (map string_bytes words.now) contents refusal }
+        (refusal : AsmRefusalOf) → result ≡ Status.Assembly refusal → IsRefusal (map string_bytes words.now) contents (Status.Assembly refusal) }
+    ensures table { (contents : Contents) → Tells (F.told shelf.old) contents →
+        (refusal : TableRefusalOf) → result ≡ Status.Table refusal → IsRefusal (map string_bytes words.now) contents (Status.Table refusal) }
     ensures limit { (contents : Contents) → Tells (F.told shelf.old) contents →
-        (kind : LimitOf) (n : ℕ) → result ≡ Status.Limit kind n → IsTooLong (map string_bytes words.now) contents kind n }
+        (kind : LimitOf) (n : ℕ) → result ≡ Status.Limit kind n → IsRefusal (map string_bytes words.now) contents (Status.Limit kind n) }
 
     // Each fault of a device was counted in this call.
     ensures read_fault { result ≡ Status.ReadFault → NamedFault (map string_bytes words.now) (F.faults shelf.old) (F.faults shelf.new) }
+    ensures read_in_order { (contents : Contents) → Tells (F.told shelf.old) contents → result ≡ Status.ReadFault →
+        NamedInOrder (map string_bytes words.now) contents (F.faults shelf.old) (F.faults shelf.new) }
     ensures write_fault { result ≡ Status.WriteFault → Rose (O.faults out.old) (O.faults out.new) ⊎ Rose (E.faults err.old) (E.faults err.new) }
 
     // The bytes: a refusal, a read fault and want of memory leave `out` as it was, and `err` has their line.
@@ -128,7 +110,7 @@ pub fn analyse<F: Shelf, O: Sink, E: Sink>(
         (sunk (O.contents out.old) (O.contents out.new) (O.faults out.old) (O.faults out.new))
         (sunk (E.contents err.old) (E.contents err.new) (E.faults err.old) (E.faults err.new)) }
 
-    // Done: the file was read to its end, and the report of its one run was written.
+    // Done: both files were read to their end, and the report of its one run was written.
     ensures done { (contents : Contents) → Tells (F.told shelf.old) contents → result ≡ Status.Done →
         IsReported (map string_bytes words.now) contents
         (sunk (O.contents out.old) (O.contents out.new) (O.faults out.old) (O.faults out.new))

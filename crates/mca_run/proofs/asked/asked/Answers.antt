@@ -1,0 +1,6 @@
+use Rattle.std.proofs.Common.{refl, sym, ◌∙◌}
+use Rattle.mca_run.specs.Asked.{unbuilt}
+use Rattle.mca_run.proofs.asked.asked.Goals as goal
+
+pub returns-then-is_unbuilt-clause-err : goal.returns-then-is_unbuilt-clause-err
+returns-then-is_unbuilt-clause-err c = unbuilt c.in-Ok.options c.in-Ok.ensures (sym c.is_unbuilt.ensures ∙ c.if-is_unbuilt.true) refl
