@@ -1,0 +1,38 @@
+#!/bin/sh
+# Times the built program on inputs made here. Run it after ./mca has built the program.
+top=$(CDPATH='' cd "$(dirname "$0")/.." && pwd -P) || exit 1
+program=$top/crates/mca_cli/out/mca_cli
+[ -x "$program" ] || { echo "build first: $top/mca -table=$top/examples/b.td $top/examples/add.s" >&2; exit 1; }
+work=$(mktemp -d) || exit 1
+trap 'rm -rf "$work"' EXIT
+
+awk 'BEGIN { for (i = 0; i < 4096; i++) print "add a0, a0, a0" }' > "$work/rows.s"
+awk 'BEGIN { print "add a0, a0, a0" }' > "$work/one.s"
+head -c 8388609 /dev/zero | tr '\0' '\n' > "$work/long.s"
+awk 'BEGIN { for (i = 0; i < 1048575; i++) print "# byte"; print "nop" }' > "$work/short_lines.s"
+awk 'BEGIN { for (j = 0; j < 4090; j++) line = line ";"; for (i = 0; i < 2048; i++) print line; print "nop" }' > "$work/long_lines.s"
+
+# time_of NAME FILE [TABLE]: the least of five runs, with its status.
+time_of() {
+    best=
+    for run in 1 2 3 4 5; do
+        start=$(date +%s%N)
+        "$program" "-table=${3:-$top/examples/b.td}" "$2" >/dev/null 2>&1
+        status=$?
+        end=$(date +%s%N)
+        took=$(( (end - start) / 10000 ))
+        if [ -z "$best" ] || [ "$took" -lt "$best" ]; then best=$took; fi
+    done
+    printf '%-40s status %d  %d.%02d ms\n' "$1" "$status" $((best / 100)) $((best % 100))
+}
+
+{ for table in 1 2 3 4 5 6 7 8; do awk -v t="$table" 'BEGIN { for (i = 0; i < 1024; i++) print "def U" t "_" i " : ProcResource<1>;" }'; done; } > "$work/records.td"
+head -c 8388608 /dev/zero | tr '\0' '\n' > "$work/blank.td"
+
+time_of 'start-up, one line' "$work/one.s"
+time_of '4,096 lines of add (409,600 rows)' "$work/rows.s"
+time_of 'a file of 8,388,609 bytes, refused' "$work/long.s"
+time_of 'a million short lines (7 MiB)' "$work/short_lines.s"
+time_of 'lines of 4,090 bytes (8 MiB)' "$work/long_lines.s"
+time_of 'a table of 8,192 records' "$work/one.s" "$work/records.td"
+time_of 'a table of 8 MiB of blank lines' "$work/one.s" "$work/blank.td"
