@@ -1,5 +1,5 @@
 //! The devices over std, which are the trusted edge: they count their faults and tell no bytes.
-ghost use Rattle.std.specs.Prelude.{None, is_some};
+ghost use Rattle.std.specs.Prelude.{◌≡◌, ℕ, List, false, None, is_some};
 
 use crate::failed::Failed;
 use crate::shelf::Shelf;
@@ -17,8 +17,11 @@ pub struct FileShelf<R: Files + Drop> {
 }
 
 impl<R: Files + Drop> FileShelf<R> {
-    /// A shelf with no file chosen. Takes no memory.
-    pub fn make(rt: R, _alloc: Global) -> FileShelf<R> {
+    /// A shelf with no file chosen and no fault counted. Takes no memory.
+    pub fn make(rt: R, _alloc: Global) -> FileShelf<R>
+        ensures chosen { ⟦<FileShelf<R> as Shelf>⟧.chosen result ≡ false }
+        ensures faults { (n : List ℕ) → ⟦<FileShelf<R> as Shelf>⟧.faults result n ≡ 0 }
+    {
         FileShelf {
             rt,
             file: None,
@@ -72,8 +75,10 @@ pub struct StdSink<W: Write + Drop> {
 }
 
 impl<W: Write + Drop> StdSink<W> {
-    /// A sink over a writer. Takes no memory.
-    pub fn make(inner: W) -> StdSink<W> {
+    /// A sink over a writer, with no fault counted. Takes no memory.
+    pub fn make(inner: W) -> StdSink<W>
+        ensures { ⟦<StdSink<W> as Sink>⟧.faults result ≡ 0 }
+    {
         StdSink { inner, faults: 0 }
     }
 }
