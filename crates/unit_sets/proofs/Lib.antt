@@ -1,0 +1,5 @@
+pub mod Count
+pub mod First
+pub mod Search
+mod Four
+mod Words
