@@ -5,3 +5,4 @@ pub mod ListSteps
 pub mod NameSet
 pub mod OneAnswer
 pub mod NameOrder
+pub mod FewRecords

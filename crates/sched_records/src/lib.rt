@@ -21,7 +21,7 @@ mod value;
 
 pub use records::{Atom, Member, Record, Records, Value};
 pub use refusal::{TableKind, TableRefusal};
-pub use table::{members_in_order, one_answer, read_table};
+pub use table::{few_records, members_in_order, one_answer, read_table};
 
 #[cfg(test)]
 mod tests;

@@ -22,6 +22,7 @@ use std::alloc::Global;
 pub fn read_table(alloc: Global, text: &[u8]) -> Result<Records, TableRefusal>
     requires { length text.now ≤ 8388608 }
     ensures records { IfOk result (λ records. HasRecords text.now records) }
+    ensures few { IfOk result (λ records. length records ≤ 8192) }
     ensures fault { IfErr result (λ f. UnlessMemory f.kind (HasFault text.now f)) }
 {
     let mut tokens = Tokens::at(text, 1);
@@ -45,4 +46,9 @@ pub fn one_answer()
     ensures records { (text : List ℕ) (a b : List RecordOf) → HasRecords text a → HasRecords text b → a ≡ b }
     ensures fault { (text : List ℕ) (f g : RefusalOf) → HasFault text f → HasFault text g → f ≡ g }
     ensures not_both { (text : List ℕ) (a : List RecordOf) (f : RefusalOf) → HasRecords text a → HasFault text f → ⊥ }
+{}
+
+/// A text has at most 8,192 records.
+pub fn few_records()
+    ensures { (text : List ℕ) (records : List RecordOf) → HasRecords text records → length records ≤ 8192 }
 {}

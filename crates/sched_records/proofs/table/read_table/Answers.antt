@@ -1,7 +1,8 @@
-use Rattle.std.proofs.Common.{Ok, Err, sym, ◌∙◌, refl}
+use Rattle.std.proofs.Common.{Ok, Err, sym, ◌∙◌, refl, arith}
 use Rattle.std.proofs.lemmas.Result.{err_from_is_err_and}
 use Rattle.sched_records.specs.Table.{ends, fails, goes_on}
 use Rattle.sched_records.proofs.OneAnswer.{unless_map}
+use Rattle.sched_records.proofs.FewRecords.{few}
 use Rattle.sched_records.proofs.table.read_table.Goals as goal
 
 pub returns-in_err-step-clause-fault : goal.returns-in_err-step-clause-fault
@@ -17,3 +18,6 @@ phrases-preserved c = λ answer h.
 
 pub returns-clause-records : goal.returns-clause-records
 returns-clause-records c = rw c.into_records.ensures (c.phrases.invariant (Ok c.phrases.known.kept) (ends (sym c.may_end.ensures ∙ c.phrases-test.false) refl))
+
+pub returns-clause-few : goal.returns-clause-few
+returns-clause-few c = rw c.into_records.ensures (few c.phrases.known.kept (c.phrases.invariant (Ok c.phrases.known.kept) (ends (sym c.may_end.ensures ∙ c.phrases-test.false) refl)) refl (omega arith))
