@@ -1,13 +1,23 @@
-//! What a machine is: its numbers, apart from how they are kept.
+//! What a machine is: its numbers, the calls that tell them, and the law that every machine keeps.
 //!
 //! The terms are those of LLVM's `SchedMachineModel`, `ProcResource`, `WriteRes`, `ReadAdvance` and
 //! `RegisterFile` (comments of `TargetSchedule.td`).
 #![tactic(auto)]
 
+mod answers;
 mod facts;
-mod kind;
+mod fixed;
 mod limits;
+mod machine;
+mod tuning;
 
+pub use answers::{Binding, ClassAnswer, UnitOwner};
 pub use facts::{FileShare, Use, WriteFacts};
-pub use kind::Kind;
+pub use fixed::{Dual, Fixed, Quad, Tiny};
 pub use limits::Limits;
+pub use machine::Machine;
+pub use rv_isa::Kind;
+pub use tuning::Tuning;
+
+#[cfg(test)]
+mod tests;
