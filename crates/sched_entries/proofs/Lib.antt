@@ -1,0 +1,3 @@
+mod PlaceSteps
+mod SeenSteps
+pub mod Told

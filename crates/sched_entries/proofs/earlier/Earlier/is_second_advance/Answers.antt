@@ -1,0 +1,16 @@
+use Rattle.std.proofs.Common.{◌∙◌, ap, sym, map, position, nat_eq}
+use Rattle.std.specs.Cmp.Lexicographic.{pointwise}
+use Rattle.std.proofs.lemmas.List.{length-map}
+use Rattle.sched_entries.specs.Reading.{word_of}
+use Rattle.sched_entries.specs.Names.{read_names}
+use Rattle.sched_entries.proofs.SeenSteps.{second_advance, number_stands}
+use Rattle.sched_entries.proofs.earlier.Earlier.is_second_advance.Goals as goal
+
+pub returns-in-None : goal.returns-in-None
+returns-in-None c = absurd (number_stands c.args.self.now.table c.args.one.now c.argument_word.result.now c.requires.stands c.requires.advance c.argument_word.ensures
+    (c.in-None.ensures ∙ ap (λ t. position (pointwise nat_eq c.argument_word.result.now) (read_names t)) c.requires.table))
+
+pub returns-in-Some : goal.returns-in-Some
+returns-in-Some c = c.has_advance.ensures ∙ (rw (← length-map c.argument_atoms.result.now word_of)
+    (second_advance c.args.self.now.table c.args.self.now.earlier c.args.one.now c.argument_word.result.now (map word_of c.argument_atoms.result.now) c.in-Some.read c.argument_word.ensures (ap (map word_of) c.argument_atoms.ensures)
+    (sym (c.in-Some.ensures ∙ ap (λ t. position (pointwise nat_eq c.argument_word.result.now) (read_names t)) c.requires.table))))

@@ -1,0 +1,13 @@
+use Rattle.std.proofs.Common.{◌≡◌, ℕ, ◌≤◌, List, length, nat_eq, take}
+use Rattle.std.specs.Cmp.Lexicographic.{pointwise}
+use Rattle.std.specs.List.{position}
+use Rattle.sched_entries.specs.Places.{names_as, first_place}
+use Rattle.sched_entries.proofs.places.places_of.Given as goal
+
+-- the places are those of the names so far
+abbrev pub invariant-loop-one : goal.invariant-loop-one
+invariant-loop-one l = record {
+  counted : l.count ≡ length (names_as l.kind (take l.one-index l.records));
+  few : l.count ≤ l.one-index;
+  placed : (n : List ℕ) → first_place l.places n ≡ position (pointwise nat_eq n) (names_as l.kind (take l.one-index l.records));
+}
