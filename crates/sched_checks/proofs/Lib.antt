@@ -1,0 +1,4 @@
+pub mod NamedOps
+pub mod Walks
+pub mod PartsAt
+pub mod UsesMet
