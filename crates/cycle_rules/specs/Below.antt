@@ -1,13 +1,10 @@
 -- Sums, counts and searches over the numbers below a number, and the least number that passes a test.
+unfoldable pub use Rattle.unit_sets.specs.Below.{count_below, first_from}
 use Rattle.std.specs.Prelude.{zero, suc, ◌≡◌, ℕ, ◌+◌, ◌<◌, Bool, true, false, ◌&&◌, Option, Some, None, if◌then◌else◌}
 
 unfoldable pub sum_below : ℕ → (ℕ → ℕ) → ℕ
 sum_below zero f = 0
 sum_below (suc n) f = sum_below n f + f n
-
-unfoldable pub count_below : ℕ → (ℕ → Bool) → ℕ
-count_below zero p = 0
-count_below (suc n) p = count_below n p + (if p n then 1 else 0)
 
 unfoldable pub all_below : ℕ → (ℕ → Bool) → Bool
 all_below zero p = true
@@ -17,11 +14,6 @@ all_below (suc n) p = all_below n p && p n
 unfoldable pub last_below : ℕ → (ℕ → Bool) → Option ℕ
 last_below zero p = None
 last_below (suc n) p = if p n then Some n else last_below n p
-
--- the least that passes of the n numbers from a on
-unfoldable pub first_from : ℕ → ℕ → (ℕ → Bool) → Option ℕ
-first_from a zero p = None
-first_from a (suc n) p = if p a then Some a else first_from (a + 1) n p
 
 -- c is the least number that passes
 pub record Least (p : ℕ → Bool) (c : ℕ) : Type 0 where

@@ -2,8 +2,8 @@
 -- Each test reads the table t of what is seen there; the time of an event that has not come lies above c.
 use Rattle.std.specs.Prelude.{zero, suc, ℕ, ◌+◌, Bool, true, false, not, ◌&&◌, ◌||◌, Option, Some, None, is_some, nat_lt, nat_le, nat_eq}
 use Rattle.std.specs.List.{list_all}
-use Rattle.machine_model.specs.declared.kind.Kind.{Kind}
-use Rattle.machine_model.specs.declared.kind.Kind.TheVariants.{Plain, Load, Store}
+use Rattle.rv_isa.specs.declared.facts.Kind.{Kind}
+use Rattle.rv_isa.specs.declared.facts.Kind.TheVariants.{Plain, Load, Store}
 use Rattle.cycle_rules.specs.Below.{all_below, last_below}
 use Rattle.cycle_rules.specs.Row.{Input, Table, lead, advance_of, is_store, is_barrier}
 use Rattle.cycle_rules.specs.Pick.{pick}

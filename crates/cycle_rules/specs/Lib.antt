@@ -8,4 +8,6 @@ pub mod Seen
 pub mod Run
 pub mod Schedule
 pub mod Events
+pub mod Bind
+pub mod Bounds
 pub mod Worked

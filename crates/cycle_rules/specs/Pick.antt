@@ -1,7 +1,8 @@
 -- Which units the uses of a row take when it issues: round robin over the free units of each resource.
 use Rattle.std.specs.Prelude.{zero, suc, ℕ, ◌+◌, ◌-◌, List, [], ◌∷◌, ◌++◌, length, replicate, Bool, not, ◌&&◌, Option, Some, None, nat_lt, nat_le, nat_eq, if◌then◌else◌}
 use Rattle.std.specs.List.{list_any}
-use Rattle.cycle_rules.specs.Below.{first_from}
+pub use Rattle.unit_sets.specs.Below.{or_else}
+unfoldable pub use Rattle.unit_sets.specs.Below.{cyclic_from}
 use Rattle.machine_model.specs.Meaning.{MachineMeaning}
 use Rattle.cycle_rules.specs.Row.{Input, Table, phase}
 use Rattle.machine_model.specs.declared.facts.Use.{Use}
@@ -25,14 +26,6 @@ is_free earlier c u = not (list_any (λ h. nat_eq h.unit u && holds_at c h) earl
 unfoldable pub place_after : ℕ → List Taken → ℕ
 place_after r [] = 0
 place_after r (h ∷ later) = if list_any (λ k. nat_eq k.resource r) later then place_after r later else (if nat_eq h.resource r then h.unit + 1 else 0)
-
-abbrev pub or_else : Option ℕ → Option ℕ → Option ℕ
-or_else (Some u) other = Some u
-or_else None other = other
-
--- the first of the numbers below n with p, from a place on and cyclically
-unfoldable pub cyclic_from : ℕ → ℕ → (ℕ → Bool) → Option ℕ
-cyclic_from n a p = or_else (first_from a (n - a) p) (first_from 0 n p)
 
 -- the unit that a use of a resource takes: round robin over those that are free
 unfoldable pub pick_unit : MachineMeaning → List Taken → ℕ → ℕ → Option ℕ

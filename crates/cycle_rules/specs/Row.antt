@@ -2,9 +2,10 @@
 use Rattle.std.specs.Prelude.{ℕ, ℤ, pos, negsuc, ◌+◌, ◌-◌, ◌*◌, ◌%◌, min, length, slice_index_or, Bool, true, false, List, [], nat_eq, if◌then◌else◌}
 use Rattle.std.specs.List.{list_any}
 use Rattle.machine_model.specs.Meaning.{MachineMeaning}
+use Rattle.machine_model.specs.Valid.{no_class}
 use Rattle.machine_model.specs.declared.facts.Use.{Use}
-use Rattle.machine_model.specs.declared.kind.Kind.{Kind}
-use Rattle.machine_model.specs.declared.kind.Kind.TheVariants.{Plain, Load, Store, Barrier}
+use Rattle.rv_isa.specs.declared.facts.Kind.{Kind}
+use Rattle.rv_isa.specs.declared.facts.Kind.TheVariants.{Plain, Load, Store, Barrier}
 use Rattle.cycle_rules.specs.declared.bound.Source.{Source}
 use Rattle.cycle_rules.specs.declared.times.Times.{Times}
 
@@ -60,10 +61,6 @@ entries (negsuc n) = 0
 unfoldable pub lead : ℕ → ℤ → ℕ
 lead latency (pos a) = latency - a
 lead latency (negsuc a) = latency + (a + 1)
-
--- how the class of a read is written that has none
-abbrev pub no_class : ℕ
-no_class = 65535
 
 -- the advance of a read after a write: 0 for a read without a class
 unfoldable pub advance_of : MachineMeaning → ℕ → ℕ → ℤ

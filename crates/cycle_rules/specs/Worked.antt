@@ -2,13 +2,15 @@
 use Rattle.std.specs.Prelude.{ℕ, ◌+◌, ◌-◌, ℤ, pos, negsuc, List, [], ◌∷◌, ◌++◌, length, replicate, Bool, true, false, not, ◌&&◌, None, nat_lt, nat_eq, if◌then◌else◌}
 use Rattle.std.specs.Cmp.Lexicographic.{pointwise}
 use Rattle.machine_model.specs.Meaning.{MachineMeaning}
+use Rattle.machine_model.specs.declared.answers.ClassAnswer.TheVariants.{Missing}
 use Rattle.machine_model.specs.declared.limits.Limits.{Limits}
 use Rattle.machine_model.specs.declared.facts.Use.{Use}
-use Rattle.machine_model.specs.declared.kind.Kind.{Kind}
-use Rattle.machine_model.specs.declared.kind.Kind.TheVariants.{Plain, Load, Store, Barrier}
+use Rattle.rv_isa.specs.declared.facts.Kind.{Kind}
+use Rattle.rv_isa.specs.declared.facts.Kind.TheVariants.{Plain, Load, Store, Barrier}
 use Rattle.cycle_rules.specs.Below.{all_below}
 use Rattle.cycle_rules.specs.Row.{Row, Input, Table, input, times, phase}
 use Rattle.cycle_rules.specs.Pick.{pick, padded}
+use Rattle.cycle_rules.specs.Bounds.{cycle_bound, turn_bound}
 use Rattle.cycle_rules.specs.Dispatch.{can_dispatch}
 use Rattle.cycle_rules.specs.Issue.{can_leave}
 use Rattle.cycle_rules.specs.Retire.{can_retire}
@@ -45,9 +47,13 @@ machine_of bounds buffer advance = record {
   unit_count = 4;
   resource_count = 5;
   buffer = buffer;
+  resource_name = λ r. [];
   units = units_of;
+  owner = λ u. None;
+  file_count = 0;
   file_size = λ f. 0;
   file_of = λ r. None;
+  class_of = λ o. Missing;
   write_count = 1;
   read_count = 1;
   class = λ k. record { latency = 1; uops = 1; use_count = 0; uses = []; begins_group = false; ends_group = false };
@@ -163,6 +169,20 @@ worked_runs =
     ∷ on (with_limits (record limits { reorder = 2 })) (wide_div [] ∷ bare_add 13 ∷ []) (at 0 1 21 22 [] ∷ at 22 23 24 25 [] ∷ [])
     ∷ on machine (wide_div [] ∷ bare_add 13 ∷ []) (at 0 1 21 22 [] ∷ at 2 3 4 22 [] ∷ [])
     ∷ on (with_limits (record limits { registers = 1 })) (bare_add 10 ∷ bare_add 13 ∷ []) (at 0 1 2 3 [] ∷ at 3 4 5 6 [] ∷ [])
+    ∷ []
+
+-- Bounds on the cycles and on the turns of runs
+
+abbrev pub worked_bounds : List ℕ
+worked_bounds =
+    -- one addition: 1, and 4 and its latency, its hold and the cycle of its dispatch
+    cycle_bound (input machine (add 10 11 12 ∷ []) 1) ∷ turn_bound (input machine (add 10 11 12 ∷ []) 1)
+    -- a division of five micro-ops: three cycles of a width of two
+    ∷ cycle_bound (input machine (wide_div (use_of 3 20) ∷ []) 1) ∷ turn_bound (input machine (wide_div (use_of 3 20) ∷ []) 1)
+    -- which count as the two that the reorder buffer holds
+    ∷ cycle_bound (input (with_limits (record limits { reorder = 2 })) (wide_div [] ∷ []) 1)
+    -- an advance of -2 adds two cycles to each row
+    ∷ cycle_bound (input (with_advance (negsuc 1)) (add 10 11 12 ∷ []) 3)
     ∷ []
 
 -- No runs

@@ -7,13 +7,13 @@
 //! this project's own (`docs/rules.md` says which).
 #![tactic(auto)]
 
-ghost use Rattle.std.specs.Prelude.{◌≡◌, ◌≤◌, ◌<◌, ℕ, List, replicate, true, false};
+ghost use Rattle.std.specs.Prelude.{◌≡◌, ◌≤◌, ◌<◌, ℕ, List, [], ◌∷◌, replicate, true, false};
 ghost use Rattle.machine_model.specs.Meaning.{MachineMeaning};
 ghost use Rattle.cycle_rules.specs.Row.{Row, Input, times};
 ghost use Rattle.cycle_rules.specs.Run.{IsRun, IsRunOf};
 ghost use Rattle.cycle_rules.specs.Schedule.{Rules, Known, IsSchedule, made};
 ghost use Rattle.cycle_rules.specs.Events.{events, rules_of, run_below, retired_below};
-ghost use Rattle.cycle_rules.specs.Worked.{worked_runs, wrong_runs};
+ghost use Rattle.cycle_rules.specs.Worked.{worked_runs, wrong_runs, worked_bounds};
 ghost use Rattle.cycle_rules.specs.declared.times.Times.{Times as TimesOf};
 
 mod bound;
@@ -50,4 +50,5 @@ pub fn run_exists()
 pub fn worked()
     ensures runs { worked_runs ≡ replicate 23 true }
     ensures wrong { wrong_runs ≡ replicate 15 false }
+    ensures bounds { worked_bounds ≡ 8 ∷ 10 ∷ 48 ∷ 10 ∷ 26 ∷ 28 ∷ [] }
 {}
