@@ -1,0 +1,7 @@
+use Rattle.std.proofs.Common.{◌≡◌, ◌++◌, drop, map}
+use Rattle.std.specs.List.{filter_map}
+use Rattle.sched_validate.specs.Lists.{file_in}
+use Rattle.sched_validate.proofs.lists.files.Given as goal
+
+abbrev pub invariant-loop-entry : goal.invariant-loop-entry
+invariant-loop-entry l = map (λ r. r.now) l.found.items ++ filter_map file_in (drop l.entry-index l.entries) ≡ filter_map file_in l.entries

@@ -1,0 +1,12 @@
+pub mod Lists
+pub mod Units
+pub mod Files
+pub mod Classes
+pub mod Machine
+pub mod Places
+pub mod Bind
+pub mod Advances
+pub mod Spans
+pub mod Kept
+pub mod Validate
+pub mod Buffers

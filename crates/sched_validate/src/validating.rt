@@ -1,0 +1,51 @@
+//! Validating the records of a table.
+ghost use Rattle.std.specs.Prelude.{◌≡◌, ◌≤◌, length, IfOk, IfErr, None};
+ghost use Rattle.sched_checks.specs.declared.illness.IllKind.TheVariants.{Memory};
+ghost use Rattle.sched_checks.specs.Illness.{illness_of};
+ghost use Rattle.sched_entries.specs.Entries.{entries_of, all_defaults};
+ghost use Rattle.sched_validate.specs.Machine.{machine_of};
+ghost use Rattle.sched_validate.specs.Validate.{IsIll};
+
+use crate::keeping::keep;
+use crate::table::CheckedTable;
+use machine_model::{Machine, Tuning};
+use sched_checks::{IllKind, TableIllness, first_illness};
+use sched_entries::read_entries;
+use sched_records::Record;
+use std::alloc::Global;
+
+fn no_memory() -> TableIllness
+    ensures { result.kind ≡ Memory }
+{
+    TableIllness {
+        number: 0,
+        kind: IllKind::Memory,
+    }
+}
+
+/// The machine of the records of a table, at most 8,192, with what the command line changes of it; or
+/// the first illness of the table.
+pub fn validate(
+    alloc: Global,
+    records: &[Record],
+    tuning: &Tuning,
+) -> Result<CheckedTable, TableIllness>
+    requires { length records.now ≤ 8192 }
+    ensures healthy { IfOk result (λ table. illness_of (entries_of records.now) ≡ None) }
+    ensures machine { IfOk result (λ table. ⟦<CheckedTable as Machine>⟧.meaning table ≡ machine_of (entries_of records.now) (all_defaults records.now) tuning.now) }
+    ensures ill { IfErr result (IsIll (illness_of (entries_of records.now))) }
+{
+    let entries = match read_entries(alloc, records) {
+        Ok(entries) => entries,
+        Err(_) => return Err(no_memory()),
+    };
+    match first_illness(alloc, entries.list.as_slice()) {
+        Ok(None) => {}
+        Ok(Some(illness)) => return Err(illness),
+        Err(_) => return Err(no_memory()),
+    }
+    match keep(alloc, &entries, tuning) {
+        Ok(kept) => Ok(CheckedTable::new(entries, *tuning, kept)),
+        Err(_) => Err(no_memory()),
+    }
+}
