@@ -1,3 +1,4 @@
+pub mod InRange
 pub mod Numbers
 pub mod OneAnswer
 pub mod Steps

@@ -6,4 +6,6 @@ pub mod Options
 pub mod Pieces
 pub mod Settings
 pub mod Table
+pub mod Unbuilt
 pub mod Values
+pub mod InRange

@@ -1,5 +1,5 @@
--- Models the options that the settings of a command line give, and which differ from their defaults.
-use Rattle.std.specs.Prelude.{List, [], ◌∷◌, ℕ, Bool, false, not, codes, length, nat_eq, Some, None, if◌then◌else◌}
+-- Models the options that the settings of a command line give.
+use Rattle.std.specs.Prelude.{List, [], ◌∷◌, ℕ, Bool, codes, nat_eq, Some, None, if◌then◌else◌}
 use Rattle.std.specs.Cmp.Lexicographic.{pointwise}
 use Rattle.std.specs.declared.option.Option.{Option}
 use Rattle.mca_words.specs.declared.options.Options.{Options}
@@ -60,36 +60,3 @@ options_of settings = record {
   bottleneck_analysis = truth_set settings (codes "bottleneck-analysis");
   input = input_of settings;
 }
-
-abbrev pub number_differs : ℕ → List ℕ → Bool
-number_differs number name = not (nat_eq number (default_number (form_of name)))
-
-abbrev pub truth_differs : Bool → List ℕ → Bool
-truth_differs truth name = if default_truth (form_of name) then not truth else truth
-
-abbrev pub text_differs : List ℕ → Bool
-text_differs text = not (nat_eq (length text) 0)
-
--- a test of an option, by the option's name
-abbrev pub test_of : List (List ℕ × Bool) → List ℕ → Bool
-test_of [] name = false
-test_of (test ∷ tests) name = if pointwise nat_eq name test.0 then test.1 else test_of tests name
-
--- the option with this name has another value than its default
-abbrev pub differs : Options → List ℕ → Bool
-differs options name = test_of (
-    (codes "table", text_differs options.table)
-    ∷ (codes "mcpu", text_differs options.mcpu)
-    ∷ (codes "iterations", number_differs options.iterations (codes "iterations"))
-    ∷ (codes "dispatch", number_differs options.dispatch (codes "dispatch"))
-    ∷ (codes "register-file-size", number_differs options.register_file_size (codes "register-file-size"))
-    ∷ (codes "lqueue", number_differs options.lqueue (codes "lqueue"))
-    ∷ (codes "squeue", number_differs options.squeue (codes "squeue"))
-    ∷ (codes "noalias", truth_differs options.noalias (codes "noalias"))
-    ∷ (codes "instruction-info", truth_differs options.instruction_info (codes "instruction-info"))
-    ∷ (codes "resource-pressure", truth_differs options.resource_pressure (codes "resource-pressure"))
-    ∷ (codes "timeline", truth_differs options.timeline (codes "timeline"))
-    ∷ (codes "timeline-max-iterations", number_differs options.timeline_max_iterations (codes "timeline-max-iterations"))
-    ∷ (codes "timeline-max-cycles", number_differs options.timeline_max_cycles (codes "timeline-max-cycles"))
-    ∷ (codes "bottleneck-analysis", truth_differs options.bottleneck_analysis (codes "bottleneck-analysis"))
-    ∷ []) name

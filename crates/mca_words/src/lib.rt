@@ -7,13 +7,15 @@ mod options;
 mod read;
 mod settings;
 mod table;
+mod unbuilt;
 mod value;
 mod word;
 
 pub use fault::{WordFault, WordKind};
-pub use laws::one_answer;
+pub use laws::{one_answer, options_in_range};
 pub use options::Options;
 pub use read::read_words;
+pub use unbuilt::is_unbuilt;
 
 #[cfg(test)]
 mod tests;

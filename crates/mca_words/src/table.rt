@@ -15,69 +15,85 @@ pub enum Form {
     TruthValue(bool),
 }
 
-/// An option: its name without dashes, and the form of its value.
+/// An option: its name without dashes, the form of its value, and whether the program acts on it. One
+/// that is not built is accepted with its default alone.
 #[derive(Clone, Copy)]
 pub struct Row {
     pub name: &'static str,
     pub form: Form,
+    pub built: bool,
 }
 
-const TABLE: [Row; 14] = [
+pub(crate) const TABLE: [Row; 14] = [
     Row {
         name: "table",
         form: Form::FileName,
+        built: true,
     },
     Row {
         name: "mcpu",
         form: Form::MachineName,
+        built: true,
     },
     Row {
         name: "iterations",
         form: Form::NumberUpTo(1_048_576, 100),
+        built: true,
     },
     Row {
         name: "dispatch",
         form: Form::NumberUpTo(64, 0),
+        built: true,
     },
     Row {
         name: "register-file-size",
         form: Form::NumberUpTo(65_536, 0),
+        built: false,
     },
     Row {
         name: "lqueue",
         form: Form::NumberUpTo(4_096, 0),
+        built: false,
     },
     Row {
         name: "squeue",
         form: Form::NumberUpTo(4_096, 0),
+        built: false,
     },
     Row {
         name: "noalias",
         form: Form::TruthValue(true),
+        built: false,
     },
     Row {
         name: "instruction-info",
         form: Form::TruthValue(true),
+        built: false,
     },
     Row {
         name: "resource-pressure",
         form: Form::TruthValue(true),
+        built: false,
     },
     Row {
         name: "timeline",
         form: Form::TruthValue(false),
+        built: false,
     },
     Row {
         name: "timeline-max-iterations",
         form: Form::NumberUpTo(1_048_576, 10),
+        built: false,
     },
     Row {
         name: "timeline-max-cycles",
         form: Form::NumberUpTo(1_000_000, 80),
+        built: false,
     },
     Row {
         name: "bottleneck-analysis",
         form: Form::TruthValue(false),
+        built: false,
     },
 ];
 

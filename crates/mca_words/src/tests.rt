@@ -1,6 +1,6 @@
 //! What no clause says: that the words are answered with memory to be had, what the worked examples
 //! give, and how options, values and faults are spelled.
-use crate::{Options, read_words};
+use crate::{Options, is_unbuilt, read_words};
 use std::alloc::{AllocError, Global};
 use std::process::Abort;
 use std::test::Fail;
@@ -25,12 +25,18 @@ fn shown(alloc: Global, o: &Options) -> Result<String, AllocError> {
     format!(in alloc; "{table}|{mcpu}|{numbers}|{truths}|{rest}|{input}")
 }
 
-// What words are answered that are written with commas between them: all fields, or the fault.
-fn answer(alloc: Global, words: &str) -> Result<String, AllocError> {
+// The words that are written with commas between them.
+fn cut(alloc: Global, words: &str) -> Result<Vec<String>, AllocError> {
     let mut copies = Vec::new(alloc);
     for word in words.split(',') {
         copies.push(String::from_str(alloc, word)?)?;
     }
+    Ok(copies)
+}
+
+// What words are answered that are written with commas between them: all fields, or the fault.
+fn answer(alloc: Global, words: &str) -> Result<String, AllocError> {
+    let copies = cut(alloc, words)?;
     match read_words(alloc, &copies) {
         Ok(options) => shown(alloc, &options),
         Err(fault) => format!(in alloc; "{fault}"),
@@ -289,5 +295,31 @@ fn the_first_fault_of_the_least_word_is_answered(rt: HostRuntime) -> Result<(), 
         format!(in rt.alloc(); "{fault}")?.as_str(),
         "word 1: NoInput"
     );
+    Ok(())
+}
+
+// Words, and whether they ask for what is not built.
+const ASKS: [(&str, bool); 7] = [
+    ("-table=t,-iterations=7,a.s", false),
+    ("-mcpu=tiny,-dispatch=64,a.s", false),
+    (
+        "-table=t,-lqueue=0,-noalias,-timeline=0,-timeline-max-cycles=80,a.s",
+        false,
+    ),
+    ("-table=t,-lqueue=1,a.s", true),
+    ("-table=t,-noalias=0,a.s", true),
+    ("-table=t,-timeline,a.s", true),
+    ("-table=t,-timeline-max-cycles=0,a.s", true),
+];
+
+#[test]
+fn an_option_that_is_not_built_is_seen_by_its_value(rt: HostRuntime) -> Result<(), Fail> {
+    for (words, want) in ASKS {
+        let given = cut(rt.alloc(), words)?;
+        let options = read_words(rt.alloc(), &given)
+            .ok()
+            .ok_or("the words have a fault")?;
+        assert_eq!(rt; is_unbuilt(&options), want, "{words}");
+    }
     Ok(())
 }
