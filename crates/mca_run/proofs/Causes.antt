@@ -1,31 +1,38 @@
 -- What stands in the contents of a shelf, and that an input has one answer.
 use Rattle.std.proofs.Common.{◌≡◌, ℕ, ◌<◌, ◌≤◌, List, length, Some, None, Ok, Err, sym, ◌∙◌, ap, subst, refl, arith, true, false, Bool}
-use Rattle.std.specs.Prelude.{map}
 use Rattle.std.specs.declared.option.Option.{Option}
 use Rattle.std.specs.declared.result.Result.{Result}
+use Rattle.cycle_rules.specs.declared.bound.Bound.{Bound}
+use Rattle.machine_model.specs.Meaning.{MachineMeaning}
 use Rattle.mca_io.specs.Devices.{Told, IfContent}
 use Rattle.mca_words.specs.Answer.{answer_of}
 use Rattle.mca_words.specs.declared.fault.WordFault.{WordFault}
 use Rattle.mca_words.specs.declared.options.Options.{Options}
-use Rattle.cycle_rules.specs.Row.{input}
-use Rattle.cycle_rules.specs.Run.{total_of}
-use Rattle.cycle_rules.proofs.OneRun.{table_unique}
+use Rattle.mca_words.specs.Unbuilt.{is_unbuilt}
 use Rattle.rv_asm.specs.Program.{IsProgram}
 use Rattle.rv_asm.specs.declared.item.Item.{Item}
 use Rattle.rv_asm.specs.declared.fault.AsmRefusal.{AsmRefusal}
 use Rattle.rv_asm.proofs.Answer.{one_items, one_fault, not_both as asm_not_both}
+use Rattle.rv_isa.specs.declared.instr.Instr.{Instr}
+use Rattle.sched_checks.specs.Illness.{illness_of}
+use Rattle.sched_checks.specs.declared.illness.TableIllness.{TableIllness}
+use Rattle.sched_entries.specs.Entries.{entries_of, all_defaults}
 use Rattle.sched_records.specs.Table.{HasRecords, HasFault}
 use Rattle.sched_records.specs.declared.records.Record.{Record}
 use Rattle.sched_records.specs.declared.refusal.TableRefusal.{TableRefusal}
 use Rattle.sched_records.proofs.OneAnswer.{one}
-use Rattle.mca_run.specs.Asked.{IsWordFault, own as own_words, unbuilt, is_unbuilt, IsAsked, iterations_of}
+use Rattle.sched_validate.specs.Machine.{machine_of}
+use Rattle.mca_run.specs.Asked.{IsWordFault, own as own_words, unbuilt, IsAsked, iterations_of}
 use Rattle.mca_run.specs.Items.{items_fault, code_of}
-use Rattle.mca_run.specs.Refusal.{Contents, Tells, IsTextFault, own, of_items, IsInput, IsTable, IsAsmRefusal, asm_long, asm_fault, IsTableRefusal, table_long, table_fault, IsRefusal, by_words, by_assembly, by_table, by_size, most_bytes, most_rows, rows_of}
-use Rattle.mca_run.specs.Simple.{simple_machine, simple_row}
-use Rattle.mca_run.specs.Report.{IsCodeReport, IsReport, bound_of, summary_lines, reorder, latency}
+use Rattle.mca_run.specs.Machines.{fixed_of, built_in_meaning}
+use Rattle.mca_run.specs.Refusal.{Contents, Tells, IsTextFault, own, of_items, IsInput, IsTable, IsAsmRefusal, asm_long, asm_fault, IsTableRefusal, table_long, table_fault, IsMachine, built_in, of_table, IsTaken, IsCodeRefusal, IsRunRefusal, by_table, by_illness, by_code, IsRefusal, by_words, by_assembly, by_run, most_bytes}
+use Rattle.mca_run.specs.Report.{IsCodeReport, IsMachineReport, IsRunReport, IsReport}
+use Rattle.mca_run.proofs.OneMachine.{built_in_tuned, table_tuned, code_refusal_same, code_refusal_taken, taken_same}
+use Rattle.mca_run.proofs.OneReport.{code_report_same}
+use Rattle.mca_run.specs.declared.machine.BuiltIn.{BuiltIn}
+use Rattle.mca_run.specs.declared.status.MachineRefusal.TheVariants as machine
 use Rattle.mca_run.specs.declared.status.Status.{Status}
-use Rattle.mca_run.specs.declared.status.Status.TheVariants.{Words, Assembly, Table, Limit}
-use Rattle.mca_run.specs.declared.status.LimitKind.TheVariants.{RunSize}
+use Rattle.mca_run.specs.declared.status.Status.TheVariants.{Words, Assembly, Table, Machine}
 
 -- a content that has P is there
 pub content_there : (told : List ℕ → Told) (contents : Contents) (name : List ℕ) (P : List ℕ → Type 0) → Tells told contents → IfContent (told name) P → (text : List ℕ) × (contents name ≡ Some text) × P text
@@ -108,6 +115,9 @@ asm_there contents o s (asm_fault x r p l h e) none = none_is_some (contents o.i
 table_fault_same : (text : List ℕ) (f g : TableRefusal) → HasFault text f → HasFault text g → f ≡ g
 table_fault_same text f g h i = let same = one h i in cc
 
+table_one : (text : List ℕ) (a b : List Record) → HasRecords text a → HasRecords text b → a ≡ b
+table_one text a b h i = let same = one h i in cc
+
 table_not_both : (text : List ℕ) (a : List Record) (f : TableRefusal) → HasRecords text a → HasFault text f → ⊥
 table_not_both text a f h g = let same = one h g in cc
 
@@ -126,15 +136,83 @@ pub table_there : (contents : Contents) (o : Options) (s : Status) → IsTableRe
 table_there contents o s (table_long x p l e) none = none_is_some (contents o.table) x none p
 table_there contents o s (table_fault x r p l h e) none = none_is_some (contents o.table) x none p
 
+records_same : (contents : Contents) (o : Options) (a b : List Record) → IsTable contents o a → IsTable contents o b → a ≡ b
+records_same contents o a b p q = table_one p.text a b p.has (subst (λ t. HasRecords t b) (text_same (contents o.table) q.text p.text q.there p.there) q.has)
+
+-- The machine
+
+-- a table that is named where a built-in machine is
+named_once : (o : Options) (b : BuiltIn) → fixed_of o ≡ None → fixed_of o ≡ Some b → ⊥
+named_once o b none some = none_is_some (fixed_of o) b none some
+
+machine_same : (contents : Contents) (o : Options) (m n : MachineMeaning) → IsMachine contents o m → IsMachine contents o n → m ≡ n
+machine_same contents o m n (built_in b t p k e) (built_in c u q l d) = e ∙ built_in_tuned b o t u k l ∙ ap (λ x. built_in_meaning x u) (some_same b c (sym p ∙ q)) ∙ sym d
+machine_same contents o m n (built_in b t p k e) (of_table rs u q l h j d) = absurd (named_once o b q p)
+machine_same contents o m n (of_table rs t p k h j e) (built_in c u q l d) = absurd (named_once o c p q)
+machine_same contents o m n (of_table rs t p k h j e) (of_table ss u q l i z d) = e ∙ table_tuned (entries_of rs) (all_defaults rs) o t u j z
+    ∙ ap (λ x. machine_of (entries_of x) (all_defaults x) u) (records_same contents o rs ss k l) ∙ sym d
+
+-- a machine of a table has the table there
+pub machine_there : (contents : Contents) (o : Options) (m : MachineMeaning) → IsMachine contents o m → fixed_of o ≡ None → contents o.table ≡ None → ⊥
+machine_there contents o m (built_in b t p k e) none absent = named_once o b none p
+machine_there contents o m (of_table rs t p k h j e) none absent = none_is_some (contents o.table) k.text absent k.there
+
+-- a table that is refused is no machine
+table_no_machine : (contents : Contents) (o : Options) (s : Status) (m : MachineMeaning) → fixed_of o ≡ None → IsTableRefusal contents o s → IsMachine contents o m → ⊥
+table_no_machine contents o s m none r (built_in b t p k e) = named_once o b none p
+table_no_machine contents o s m none r (of_table rs t p k h j e) = table_no_records contents o s rs r k
+
+illness_same : (contents : Contents) (o : Options) (a b : List Record) (i : Option TableIllness) → IsTable contents o a → IsTable contents o b → illness_of (entries_of b) ≡ i → illness_of (entries_of a) ≡ i
+illness_same contents o a b i p q e = ap (λ x. illness_of (entries_of x)) (records_same contents o a b p q) ∙ e
+
+ill_no_machine : (contents : Contents) (o : Options) (records : List Record) (f : TableIllness) (m : MachineMeaning) → fixed_of o ≡ None → IsTable contents o records → illness_of (entries_of records) ≡ Some f → IsMachine contents o m → ⊥
+ill_no_machine contents o records f m none table ill (built_in b t p k e) = named_once o b none p
+ill_no_machine contents o records f m none table ill (of_table rs t p k h j e) = none_is_some (illness_of (entries_of records)) f (illness_same contents o records rs None table k h) ill
+
+-- What the machine or its run is refused with
+
+run_same : (contents : Contents) (o : Options) (code : List Instr) (s t : Status) → IsRunRefusal contents o code s → IsRunRefusal contents o code t → s ≡ t
+run_same contents o code s t (by_table p r) (by_table q h) = table_same contents o s t r h
+run_same contents o code s t (by_table p r) (by_illness rs f q k i e) = absurd (table_no_records contents o s rs r k)
+run_same contents o code s t (by_table p r) (by_code m k h) = absurd (table_no_machine contents o s m p r k)
+run_same contents o code s t (by_illness rs f p k i e) (by_table q h) = absurd (table_no_records contents o t rs h k)
+run_same contents o code s t (by_illness rs f p k i e) (by_illness ss g q l j d) =
+    e ∙ ap (λ x. Machine (machine.Record x.number x.kind)) (some_same f g (sym i ∙ illness_same contents o rs ss (Some g) k l j)) ∙ sym d
+run_same contents o code s t (by_illness rs f p k i e) (by_code m l h) = absurd (ill_no_machine contents o rs f m p k i l)
+run_same contents o code s t (by_code m k h) (by_table q r) = absurd (table_no_machine contents o t m q r k)
+run_same contents o code s t (by_code m k h) (by_illness ss g q l j d) = absurd (ill_no_machine contents o ss g m q l j k)
+run_same contents o code s t (by_code m k h) (by_code n l j) =
+    code_refusal_same m code (iterations_of o) s t h (subst (λ x. IsCodeRefusal x code (iterations_of o) t) (machine_same contents o n m l k) j)
+
+run_taken : (contents : Contents) (o : Options) (code : List Instr) (s : Status) (m : MachineMeaning) (body : List Bound) → IsRunRefusal contents o code s → IsMachine contents o m → IsTaken m code (iterations_of o) body → ⊥
+run_taken contents o code s m body (by_table p r) k taken = table_no_machine contents o s m p r k
+run_taken contents o code s m body (by_illness rs f p l i e) k taken = ill_no_machine contents o rs f m p l i k
+run_taken contents o code s m body (by_code n l h) k taken =
+    code_refusal_taken m code (iterations_of o) s body (subst (λ x. IsCodeRefusal x code (iterations_of o) s) (machine_same contents o n m l k) h) taken
+
+run_there : (contents : Contents) (o : Options) (code : List Instr) (s : Status) → IsRunRefusal contents o code s → fixed_of o ≡ None → contents o.table ≡ None → ⊥
+run_there contents o code s (by_table p r) none absent = table_there contents o s r absent
+run_there contents o code s (by_illness rs f p k i e) none absent = none_is_some (contents o.table) k.text absent k.there
+run_there contents o code s (by_code m k h) none absent = machine_there contents o m k none absent
+
 -- The report
+
+machine_report_same : (m : MachineMeaning) (code : List Instr) (n : ℕ) (a b : List ℕ) → IsMachineReport m code n a → IsMachineReport m code n b → a ≡ b
+machine_report_same m code n a b p q =
+    code_report_same m p.body n a b p.told (subst (λ body. IsCodeReport m body n b) (taken_same m code n q.body p.body q.taken p.taken) q.told)
+
+run_report_same : (contents : Contents) (o : Options) (code : List Instr) (a b : List ℕ) → IsRunReport contents o code a → IsRunReport contents o code b → a ≡ b
+run_report_same contents o code a b p q =
+    machine_report_same p.machine code (iterations_of o) a b p.by (subst (λ m. IsMachineReport m code (iterations_of o) b) (machine_same contents o q.machine p.machine q.named p.named) q.by)
 
 pub report_same : (words : List (List ℕ)) (contents : Contents) (a b : List ℕ) → IsReport words contents a → IsReport words contents b → a ≡ b
 report_same words contents a b p q =
     let options : q.options ≡ p.options = asked_same words q.options p.options q.asked p.asked in
     let items : q.items ≡ p.items = input_same contents p.options q.items p.items (subst (λ o. IsInput contents o q.items) options q.input) p.input in
-    let told : IsCodeReport (iterations_of p.options) (code_of p.items) b = subst (λ o. IsCodeReport (iterations_of o) (code_of p.items) b) options (subst (λ i. IsCodeReport (iterations_of q.options) (code_of i) b) items q.told) in
-    let table : p.told.table ≡ told.table = table_unique (input (simple_machine reorder) (map (simple_row latency) (map bound_of (code_of p.items))) (iterations_of p.options)) p.told.table told.table p.told.run told.run in
-    p.told.bytes ∙ ap (λ t. summary_lines (iterations_of p.options) (length t) (total_of t)) table ∙ sym told.bytes
+    let run : IsRunReport contents p.options (code_of p.items) b =
+    subst (λ o. IsRunReport contents o (code_of p.items) b) options
+    (subst (λ i. IsRunReport contents q.options (code_of i) b) items q.run) in
+    run_report_same contents p.options (code_of p.items) a b p.run run
 
 -- Refusals
 
@@ -145,54 +223,40 @@ input_along words contents o a items p q h = subst (λ x. IsInput contents x ite
 asm_along : (words : List (List ℕ)) (contents : Contents) (o a : Options) (s : Status) → IsAsked words o → IsAsked words a → IsAsmRefusal contents a s → IsAsmRefusal contents o s
 asm_along words contents o a s p q h = subst (λ x. IsAsmRefusal contents x s) (asked_same words a o q p) h
 
-table_along : (words : List (List ℕ)) (contents : Contents) (o a : Options) (s : Status) → IsAsked words o → IsAsked words a → IsTableRefusal contents a s → IsTableRefusal contents o s
-table_along words contents o a s p q h = subst (λ x. IsTableRefusal contents x s) (asked_same words a o q p) h
-
-records_along : (words : List (List ℕ)) (contents : Contents) (o a : Options) (records : List Record) → IsAsked words o → IsAsked words a → IsTable contents a records → IsTable contents o records
-records_along words contents o a records p q h = subst (λ x. IsTable contents x records) (asked_same words a o q p) h
-
-pub rows_same : (words : List (List ℕ)) (contents : Contents) (o a : Options) (i j : List Item) → IsAsked words o → IsAsked words a → IsInput contents o i → IsInput contents a j → rows_of o i ≡ rows_of a j
-rows_same words contents o a i j p q h k =
-    ap (λ x. rows_of o x) (input_same contents o i j h (input_along words contents o a j p q k)) ∙ ap (λ x. rows_of x j) (asked_same words o a p q)
+run_along : (words : List (List ℕ)) (contents : Contents) (o a : Options) (items others : List Item) (s : Status) → IsAsked words o → IsAsked words a → IsInput contents o items → IsInput contents a others
+    → IsRunRefusal contents a (code_of others) s → IsRunRefusal contents o (code_of items) s
+run_along words contents o a items others s p q i j h =
+    subst (λ x. IsRunRefusal contents o (code_of x) s) (input_same contents o others items (input_along words contents o a others p q j) i)
+    (subst (λ x. IsRunRefusal contents x (code_of others) s) (asked_same words a o q p) h)
 
 pub refusal_same : (words : List (List ℕ)) (contents : Contents) (s t : Status) → IsRefusal words contents s → IsRefusal words contents t → s ≡ t
 refusal_same words contents s t (by_words f p e) (by_words g q d) = e ∙ ap Words (word_fault_same words f g p q) ∙ sym d
 refusal_same words contents s t (by_words f p e) (by_assembly o a r) = absurd (word_fault_asked words f o p a)
-refusal_same words contents s t (by_words f p e) (by_table o items a i r) = absurd (word_fault_asked words f o p a)
-refusal_same words contents s t (by_words f p e) (by_size o items records a i k big d) = absurd (word_fault_asked words f o p a)
+refusal_same words contents s t (by_words f p e) (by_run o items a i r) = absurd (word_fault_asked words f o p a)
 refusal_same words contents s t (by_assembly o a r) (by_words f p e) = absurd (word_fault_asked words f o p a)
 refusal_same words contents s t (by_assembly o a r) (by_assembly x b q) = asm_same contents o s t r (asm_along words contents o x t a b q)
-refusal_same words contents s t (by_assembly o a r) (by_table x items b i q) = absurd (asm_no_input contents o s items r (input_along words contents o x items a b i))
-refusal_same words contents s t (by_assembly o a r) (by_size x items records b i k big d) = absurd (asm_no_input contents o s items r (input_along words contents o x items a b i))
-refusal_same words contents s t (by_table o items a i r) (by_words f p e) = absurd (word_fault_asked words f o p a)
-refusal_same words contents s t (by_table o items a i r) (by_assembly x b q) = absurd (asm_no_input contents o t items (asm_along words contents o x t a b q) i)
-refusal_same words contents s t (by_table o items a i r) (by_table x others b j q) = table_same contents o s t r (table_along words contents o x t a b q)
-refusal_same words contents s t (by_table o items a i r) (by_size x others records b j k big d) = absurd (table_no_records contents o s records r (records_along words contents o x records a b k))
-refusal_same words contents s t (by_size o items records a i k big e) (by_words f p d) = absurd (word_fault_asked words f o p a)
-refusal_same words contents s t (by_size o items records a i k big e) (by_assembly x b q) = absurd (asm_no_input contents o t items (asm_along words contents o x t a b q) i)
-refusal_same words contents s t (by_size o items records a i k big e) (by_table x others b j q) = absurd (table_no_records contents o t records (table_along words contents o x t a b q) k)
-refusal_same words contents s t (by_size o items records a i k big e) (by_size x others more b j m large d) = e ∙ ap (Limit RunSize) (rows_same words contents o x items others a b i j) ∙ sym d
+refusal_same words contents s t (by_assembly o a r) (by_run x items b i q) = absurd (asm_no_input contents o s items r (input_along words contents o x items a b i))
+refusal_same words contents s t (by_run o items a i r) (by_words f p e) = absurd (word_fault_asked words f o p a)
+refusal_same words contents s t (by_run o items a i r) (by_assembly x b q) = absurd (asm_no_input contents o t items (asm_along words contents o x t a b q) i)
+refusal_same words contents s t (by_run o items a i r) (by_run x others b j q) = run_same contents o (code_of items) s t r (run_along words contents o x items others t a b i j q)
 
--- what is refused has no assembly, table and size that are right
-pub refusal_accepted : (words : List (List ℕ)) (contents : Contents) (s : Status) (o : Options) (items : List Item) (records : List Record) → IsRefusal words contents s → IsAsked words o → IsInput contents o items → IsTable contents o records
-    → rows_of o items ≤ most_rows → ⊥
-refusal_accepted words contents s o items records (by_words f p e) a i k few = word_fault_asked words f o p a
-refusal_accepted words contents s o items records (by_assembly x b r) a i k few = asm_no_input contents o s items (asm_along words contents o x s a b r) i
-refusal_accepted words contents s o items records (by_table x others b j r) a i k few = table_no_records contents o s records (table_along words contents o x s a b r) k
-refusal_accepted words contents s o items records (by_size x others more b j m big e) a i k few = omega (arith, rows_same words contents o x items others a b i j, few, big)
+-- what is refused has no assembly and machine that takes it
+pub refusal_accepted : (words : List (List ℕ)) (contents : Contents) (s : Status) (o : Options) (items : List Item) (m : MachineMeaning) (body : List Bound) → IsRefusal words contents s → IsAsked words o → IsInput contents o items → IsMachine contents o m
+    → IsTaken m (code_of items) (iterations_of o) body → ⊥
+refusal_accepted words contents s o items m body (by_words f p e) a i k taken = word_fault_asked words f o p a
+refusal_accepted words contents s o items m body (by_assembly x b r) a i k taken = asm_no_input contents o s items (asm_along words contents o x s a b r) i
+refusal_accepted words contents s o items m body (by_run x others b j r) a i k taken = run_taken contents o (code_of items) s m body (run_along words contents o x items others s a b i j r) k taken
 
 pub not_both : (words : List (List ℕ)) (contents : Contents) (s : Status) (a : List ℕ) → IsRefusal words contents s → IsReport words contents a → ⊥
-not_both words contents s a p q = refusal_accepted words contents s q.options q.items q.records p q.asked q.input q.table q.few
+not_both words contents s a p q = refusal_accepted words contents s q.options q.items q.run.machine q.run.by.body p q.asked q.input q.run.named q.run.by.taken
 
--- what is refused has the assembly there, and past it the table
+-- what is refused has the assembly there, and past it the table that is named
 pub refusal_assembly : (words : List (List ℕ)) (contents : Contents) (s : Status) (o : Options) → IsRefusal words contents s → IsAsked words o → contents o.input ≡ None → ⊥
 refusal_assembly words contents s o (by_words f p e) a none = word_fault_asked words f o p a
 refusal_assembly words contents s o (by_assembly x b r) a none = asm_there contents o s (asm_along words contents o x s a b r) none
-refusal_assembly words contents s o (by_table x items b j r) a none = none_is_some (contents o.input) _ none (input_along words contents o x items a b j).there
-refusal_assembly words contents s o (by_size x items records b j m big e) a none = none_is_some (contents o.input) _ none (input_along words contents o x items a b j).there
+refusal_assembly words contents s o (by_run x items b j r) a none = none_is_some (contents o.input) _ none (input_along words contents o x items a b j).there
 
-pub refusal_table : (words : List (List ℕ)) (contents : Contents) (s : Status) (o : Options) (items : List Item) → IsRefusal words contents s → IsAsked words o → IsInput contents o items → contents o.table ≡ None → ⊥
-refusal_table words contents s o items (by_words f p e) a i none = word_fault_asked words f o p a
-refusal_table words contents s o items (by_assembly x b r) a i none = asm_no_input contents o s items (asm_along words contents o x s a b r) i
-refusal_table words contents s o items (by_table x others b j r) a i none = table_there contents o s (table_along words contents o x s a b r) none
-refusal_table words contents s o items (by_size x others records b j m big e) a i none = none_is_some (contents o.table) _ none (records_along words contents o x records a b m).there
+pub refusal_table : (words : List (List ℕ)) (contents : Contents) (s : Status) (o : Options) (items : List Item) → IsRefusal words contents s → IsAsked words o → IsInput contents o items → fixed_of o ≡ None → contents o.table ≡ None → ⊥
+refusal_table words contents s o items (by_words f p e) a i none absent = word_fault_asked words f o p a
+refusal_table words contents s o items (by_assembly x b r) a i none absent = asm_no_input contents o s items (asm_along words contents o x s a b r) i
+refusal_table words contents s o items (by_run x others b j r) a i none absent = run_there contents o (code_of items) s (run_along words contents o x items others s a b i j r) none absent

@@ -9,7 +9,7 @@ use Rattle.sched_records.specs.declared.records.Record.{Record}
 use Rattle.mca_run.specs.Refusal.{Contents, Tells, IsInput, IsAsmRefusal, asm_long, asm_fault, IsTableRefusal, table_long, table_fault, most_bytes}
 use Rattle.mca_run.specs.Steps.{IsParsed, IsTabled, MayRefuseInput, MayRefuseTable, OfFiles}
 use Rattle.mca_run.specs.declared.status.Status.{Status}
-use Rattle.mca_run.specs.declared.status.Status.TheVariants.{Done, Words, Assembly, Table, Limit, ReadFault, WriteFault, Memory}
+use Rattle.mca_run.specs.declared.status.Status.TheVariants.{Done, Words, Assembly, Table, Machine, Limit, ReadFault, WriteFault, Memory}
 use Rattle.mca_run.specs.declared.status.LimitKind.TheVariants.{AssemblyBytes, TableBytes}
 use Rattle.mca_run.proofs.Causes.{content_there}
 
@@ -35,6 +35,7 @@ parsed_err told o text (Err (Assembly refusal)) short h parsed = λ contents tel
 parsed_err told o text (Err Memory) short h parsed = λ contents tells. tt
 parsed_err told o text (Err (Words fault)) short h parsed = absurd parsed
 parsed_err told o text (Err (Table refusal)) short h parsed = absurd parsed
+parsed_err told o text (Err (Machine refusal)) short h parsed = absurd parsed
 parsed_err told o text (Err (Limit kind n)) short h parsed = absurd parsed
 parsed_err told o text (Err Done) short h parsed = absurd parsed
 parsed_err told o text (Err ReadFault) short h parsed = absurd parsed
@@ -47,6 +48,7 @@ tabled_err told o text (Err (Table refusal)) short h tabled = λ contents tells.
 tabled_err told o text (Err Memory) short h tabled = λ contents tells. tt
 tabled_err told o text (Err (Words fault)) short h tabled = absurd tabled
 tabled_err told o text (Err (Assembly refusal)) short h tabled = absurd tabled
+tabled_err told o text (Err (Machine refusal)) short h tabled = absurd tabled
 tabled_err told o text (Err (Limit kind n)) short h tabled = absurd tabled
 tabled_err told o text (Err Done) short h tabled = absurd tabled
 tabled_err told o text (Err ReadFault) short h tabled = absurd tabled
@@ -58,6 +60,7 @@ parsed_of_files text (Err (Assembly refusal)) parsed = tt
 parsed_of_files text (Err Memory) parsed = tt
 parsed_of_files text (Err (Words fault)) parsed = absurd parsed
 parsed_of_files text (Err (Table refusal)) parsed = absurd parsed
+parsed_of_files text (Err (Machine refusal)) parsed = absurd parsed
 parsed_of_files text (Err (Limit kind n)) parsed = absurd parsed
 parsed_of_files text (Err Done) parsed = absurd parsed
 parsed_of_files text (Err ReadFault) parsed = absurd parsed
@@ -69,6 +72,7 @@ tabled_of_files text (Err (Table refusal)) tabled = tt
 tabled_of_files text (Err Memory) tabled = tt
 tabled_of_files text (Err (Words fault)) tabled = absurd tabled
 tabled_of_files text (Err (Assembly refusal)) tabled = absurd tabled
+tabled_of_files text (Err (Machine refusal)) tabled = absurd tabled
 tabled_of_files text (Err (Limit kind n)) tabled = absurd tabled
 tabled_of_files text (Err Done) tabled = absurd tabled
 tabled_of_files text (Err ReadFault) tabled = absurd tabled

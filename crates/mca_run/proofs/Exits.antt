@@ -1,23 +1,26 @@
 -- What each exit of the work on a call answers.
-use Rattle.std.proofs.Common.{◌≡◌, ℕ, ◌<◌, ◌≤◌, ◌*◌, inl, inr, List, length, Err, sym, ◌∙◌, ap, subst, arith}
+use Rattle.std.proofs.Common.{◌≡◌, ℕ, ◌≤◌, inl, inr, List, None, Ok, Err, sym, ◌∙◌, subst, arith}
+use Rattle.std.specs.Prelude.{IfOk, IfErr}
 use Rattle.std.specs.declared.result.Result.{Result}
-use Rattle.mca_io.specs.Devices.{Rose}
+use Rattle.mca_io.specs.Devices.{Rose, Told}
 use Rattle.mca_words.specs.declared.fault.WordFault.{WordFault}
 use Rattle.mca_words.specs.declared.options.Options.{Options}
 use Rattle.rv_asm.specs.declared.fault.AsmRefusal.{AsmRefusal}
 use Rattle.rv_asm.specs.declared.item.Item.{Item}
-use Rattle.sched_records.specs.declared.records.Record.{Record}
+use Rattle.rv_isa.specs.declared.instr.Instr.{Instr}
 use Rattle.sched_records.specs.declared.refusal.TableRefusal.{TableRefusal}
-use Rattle.mca_run.specs.Asked.{IsWordFault, IsAsked, iterations_of}
+use Rattle.mca_run.specs.Asked.{IsWordFault, IsAsked}
 use Rattle.mca_run.specs.Items.{code_of}
-use Rattle.mca_run.specs.Report.{IsCodeReport, IsReport}
-use Rattle.mca_run.specs.Refusal.{Contents, IsInput, IsTable, IsRefusal, by_size, most_rows, rows_of}
-use Rattle.mca_run.specs.Steps.{MayRefuseWords, OfFiles}
-use Rattle.mca_run.specs.Outcome.{Sunk, NamedFault, NamedInOrder, LineWritten}
+use Rattle.mca_run.specs.Machines.{fixed_of}
+use Rattle.mca_run.specs.Report.{IsRunReport, IsReport}
+use Rattle.mca_run.specs.Refusal.{Contents, Tells, IsInput}
+use Rattle.mca_run.specs.Steps.{MayRefuseWords, MayRefuseRun, OfFiles}
+use Rattle.mca_run.specs.Outcome.{Sunk, MayTell, NamedFault, NamedInOrder, LineWritten}
 use Rattle.mca_run.specs.declared.status.Status.{Status}
-use Rattle.mca_run.specs.declared.status.Status.TheVariants.{Done, Words, Assembly, Table, Limit, ReadFault, WriteFault, Memory}
+use Rattle.mca_run.specs.declared.status.Status.TheVariants.{Done, Words, Assembly, Table, Machine, Limit, ReadFault, WriteFault, Memory}
 use Rattle.mca_run.specs.declared.status.LimitKind.{LimitKind}
-use Rattle.mca_run.specs.declared.status.LimitKind.TheVariants.{RunSize}
+use Rattle.mca_run.specs.declared.status.MachineRefusal.{MachineRefusal}
+use Rattle.mca_run.proofs.Outcomes.{may_run}
 
 pub err_same : {T : Type 0} (a b : Status) → ◌≡◌ {A = Result T Status} (Err a) (Err b) → a ≡ b
 err_same a b e = cc
@@ -41,12 +44,13 @@ rose_later : (a b c : ℕ) → a ≤ b → Rose b c → Rose a c
 rose_later a b c later rose = omega (arith, later, rose)
 
 -- the table's count rose, after the assembly was read
-pub table_fault : (words : List (List ℕ)) (o : Options) (before between after : List ℕ → ℕ) → IsAsked words o → ((n : List ℕ) → before n ≤ between n) → Rose (between o.table) (after o.table) → NamedFault words before after
-table_fault words o before between after asked later rose = record { options = o; asked = asked; rose = inr (rose_later (before o.table) (between o.table) (after o.table) (later o.table) rose) }
+pub table_fault : (words : List (List ℕ)) (o : Options) (before between after : List ℕ → ℕ) → IsAsked words o → ((n : List ℕ) → before n ≤ between n) → fixed_of o ≡ None → Rose (between o.table) (after o.table) → NamedFault words before after
+table_fault words o before between after asked later none rose = record { options = o; asked = asked; rose = inr (none, rose_later (before o.table) (between o.table) (after o.table) (later o.table) rose) }
 
 pub table_in_order : (words : List (List ℕ)) (contents : Contents) (o : Options) (items : List Item) (before between after : List ℕ → ℕ) → IsAsked words o → IsInput contents o items → ((n : List ℕ) → before n ≤ between n)
-    → Rose (between o.table) (after o.table) → NamedInOrder words contents before after
-table_in_order words contents o items before between after asked input later rose = record { options = o; asked = asked; rose = inr (items, input, rose_later (before o.table) (between o.table) (after o.table) (later o.table) rose) }
+    → fixed_of o ≡ None → Rose (between o.table) (after o.table) → NamedInOrder words contents before after
+table_in_order words contents o items before between after asked input later none rose =
+    record { options = o; asked = asked; rose = inr (items, input, none, rose_later (before o.table) (between o.table) (after o.table) (later o.table) rose) }
 
 files_no_words : (status : Status) (fault : WordFault) → OfFiles status → status ≡ Words fault → ⊥
 files_no_words status fault of e = subst OfFiles e of
@@ -55,28 +59,37 @@ files_no_words status fault of e = subst OfFiles e of
 pub files_words : {T : Type 0} (status : Status) (fault : WordFault) → OfFiles status → ◌≡◌ {A = Result T Status} (Err status) (Err (Words fault)) → ⊥
 files_words status fault of e = files_no_words status fault of (err_same status (Words fault) e)
 
-rows_same : (o : Options) (items : List Item) (n m : ℕ) → n ≡ iterations_of o → m ≡ length items → length (code_of items) ≡ length items → n * m ≡ rows_of o items
-rows_same o items n m iterations len all = ap (λ x. x * m) iterations ∙ ap (λ x. iterations_of o * x) (len ∙ sym all)
+-- What is known of a result behind the words
 
--- the run is too long
-pub run_too_long : (words : List (List ℕ)) (contents : Contents) (o : Options) (items : List Item) (records : List Record) (n m : ℕ) → n ≡ iterations_of o → m ≡ length items → length (code_of items) ≡ length items
-    → IsAsked words o → IsInput contents o items → IsTable contents o records → most_rows < n * m → IsRefusal words contents (Limit RunSize (n * m))
-run_too_long words contents o items records n m iterations len all asked input table more = let same = rows_same o items n m iterations len all in
-    by_size o items records asked input table (subst (λ r. most_rows < r) same more) (ap (Limit RunSize) same)
+pub behind_words : {T : Type 0} (r : Result T Status) (fault : WordFault) → IfErr r OfFiles → r ≡ Err (Words fault) → ⊥
+behind_words {T = T} r fault of e = let known : IfErr {T = T} (Err (Words fault)) OfFiles = subst (λ x. IfErr x OfFiles) e of in known
 
--- the run was reported
-pub run_reported : (words : List (List ℕ)) (contents : Contents) (o : Options) (items shown : List Item) (records : List Record) (i n m : ℕ) (report : List ℕ) → i ≡ iterations_of o → n ≡ iterations_of o → m ≡ length items → length (code_of items) ≡ length items
-    → shown ≡ items → IsAsked words o → IsInput contents o items → IsTable contents o records → n * m ≤ most_rows → IsCodeReport i (code_of shown) report → IsReport words contents report
-run_reported words contents o items shown records i n m report repeated iterations len all same asked input table few told = record {
+pub behind_done : {T : Type 0} (r : Result T Status) → IfErr r OfFiles → r ≡ Err Done → ⊥
+behind_done {T = T} r of e = let known : IfErr {T = T} (Err Done) OfFiles = subst (λ x. IfErr x OfFiles) e of in known
+
+pub behind_write : {T : Type 0} (r : Result T Status) → IfErr r OfFiles → r ≡ Err WriteFault → ⊥
+behind_write {T = T} r of e = let known : IfErr {T = T} (Err WriteFault) OfFiles = subst (λ x. IfErr x OfFiles) e of in known
+
+-- the run of the code of these items was reported
+pub run_reported : {T : Type 0} (bytes : T → List ℕ) (words : List (List ℕ)) (before between : List ℕ → Told) (o : Options) (items : List Item) (code : List Instr) (r : Result T Status) → IsAsked words o
+    → ((contents : Contents) → Tells before contents → IsInput contents o items) → ((n : List ℕ) → between n ≡ before n) → code ≡ code_of items
+    → IfOk r (λ x. (contents : Contents) → Tells between contents → IsRunReport contents o code (bytes x)) → IfOk r (λ x. (contents : Contents) → Tells before contents → IsReport words contents (bytes x))
+run_reported bytes words before between o items code (Ok x) asked input told same h = λ contents tells. record {
   options = o;
   asked = asked;
   items = items;
-  input = input;
-  records = records;
-  table = table;
-  few = subst (λ r. r ≤ most_rows) (rows_same o items n m iterations len all) few;
-  told = subst (λ j. IsCodeReport j (code_of items) report) repeated (subst (λ l. IsCodeReport i (code_of l) report) same told);
+  input = input contents tells;
+  run = subst (λ c. IsRunReport contents o c (bytes x)) same (h contents (λ n. told n ∙ tells n));
 }
+run_reported bytes words before between o items code (Err s) asked input told same h = tt
+
+-- or refused
+pub run_refused : {T : Type 0} (words : List (List ℕ)) (before between : List ℕ → Told) (o : Options) (items : List Item) (code : List Instr) (r : Result T Status) → IsAsked words o
+    → ((contents : Contents) → Tells before contents → IsInput contents o items) → ((n : List ℕ) → between n ≡ before n) → code ≡ code_of items
+    → IfErr r (λ s. (contents : Contents) → Tells between contents → MayRefuseRun contents o code s) → IfErr r (λ s. (contents : Contents) → Tells before contents → MayTell words contents s)
+run_refused words before between o items code (Ok x) asked input told same h = tt
+run_refused words before between o items code (Err s) asked input told same h = λ contents tells.
+    may_run words contents o items s asked (input contents tells) (subst (λ c. MayRefuseRun contents o c s) same (h contents (λ n. told n ∙ tells n)))
 
 -- Which status a line was of
 
@@ -111,6 +124,15 @@ table_not_write refusal e = cc
 
 pub written_table : (err : Sunk) (status result : Status) (refusal : TableRefusal) → LineWritten err status result → result ≡ Table refusal → status ≡ Table refusal
 written_table err status result refusal h e = written_same err status result (Table refusal) h e (table_not_memory refusal) (table_not_write refusal)
+
+machine_not_memory : (refusal : MachineRefusal) → Machine refusal ≡ Memory → ⊥
+machine_not_memory refusal e = cc
+
+machine_not_write : (refusal : MachineRefusal) → Machine refusal ≡ WriteFault → ⊥
+machine_not_write refusal e = cc
+
+pub written_machine : (err : Sunk) (status result : Status) (refusal : MachineRefusal) → LineWritten err status result → result ≡ Machine refusal → status ≡ Machine refusal
+written_machine err status result refusal h e = written_same err status result (Machine refusal) h e (machine_not_memory refusal) (machine_not_write refusal)
 
 limit_not_memory : (kind : LimitKind) (n : ℕ) → Limit kind n ≡ Memory → ⊥
 limit_not_memory kind n e = cc

@@ -1,8 +1,14 @@
 pub mod Sums
 pub mod ClosedRun
+pub mod Plain
+pub mod Latest
 pub mod Kept
+pub mod OneReport
+pub mod OneMachine
+pub mod BoundBody
 pub mod Walk
 pub mod Causes
 pub mod Outcomes
 pub mod Contents
+pub mod MachineSteps
 pub mod Exits

@@ -1,23 +1,10 @@
 -- What the words ask for: the options, of which some are not built yet.
-use Rattle.std.specs.Prelude.{◌≡◌, ℕ, List, length, Bool, true, false, not, ◌||◌, nat_eq, Ok, Err, if◌then◌else◌}
+use Rattle.std.specs.Prelude.{◌≡◌, ℕ, List, true, false, nat_eq, Ok, Err, if◌then◌else◌}
 use Rattle.mca_words.specs.Answer.{answer_of}
+use Rattle.mca_words.specs.Unbuilt.{is_unbuilt}
 use Rattle.mca_words.specs.declared.fault.WordFault.{WordFault}
 use Rattle.mca_words.specs.declared.fault.WordKind.TheVariants.{NotYet}
 use Rattle.mca_words.specs.declared.options.Options.{Options}
-
--- an option of the machine's is set
-abbrev pub asks_machine : Options → Bool
-asks_machine o = not (nat_eq (length o.mcpu) 0) || not (nat_eq o.dispatch 0) || not (nat_eq o.register_file_size 0)
-    || not (nat_eq o.lqueue 0) || not (nat_eq o.squeue 0) || not o.noalias
-
--- an option of the views is set
-abbrev pub asks_views : Options → Bool
-asks_views o = not o.instruction_info || not o.resource_pressure || o.timeline
-    || not (nat_eq o.timeline_max_iterations 10) || not (nat_eq o.timeline_max_cycles 80) || o.bottleneck_analysis
-
--- an option has another value than its default, and is not built yet
-abbrev pub is_unbuilt : Options → Bool
-is_unbuilt o = asks_machine o || asks_views o
 
 -- the words are refused: by their own first fault, or for an option that is not built yet
 pub data IsWordFault (words : List (List ℕ)) (fault : WordFault) : Type 0 where

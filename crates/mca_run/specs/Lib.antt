@@ -3,6 +3,7 @@ pub mod Engine
 pub mod Lines
 pub mod Items
 pub mod Asked
+pub mod Machines
 pub mod Refusal
 pub mod Steps
 pub mod Report

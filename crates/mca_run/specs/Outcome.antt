@@ -1,15 +1,18 @@
 -- What a call of the tool leaves: the bytes on the report's sink and on the errors' sink, by its status.
-use Rattle.std.specs.Prelude.{◌≡◌, ℕ, ◌<◌, ◌≤◌, ◌⊎◌, ⊤, List, length, take, None}
+use Rattle.std.specs.Prelude.{◌≡◌, ℕ, ◌<◌, ◌⊎◌, ⊤, List, length, take, None}
 use Rattle.std.specs.declared.option.Option.{Option}
 use Rattle.std.specs.Io.KnownBytes.{Appends, Keeps}
+use Rattle.cycle_rules.specs.declared.bound.Bound.{Bound}
+use Rattle.machine_model.specs.Meaning.{MachineMeaning}
 use Rattle.mca_io.specs.Devices.{Rose}
 use Rattle.mca_words.specs.declared.fault.WordFault.{WordFault}
 use Rattle.mca_words.specs.declared.options.Options.{Options}
 use Rattle.rv_asm.specs.declared.item.Item.{Item}
-use Rattle.sched_records.specs.declared.records.Record.{Record}
 use Rattle.mca_run.specs.Lines.{line_of}
-use Rattle.mca_run.specs.Asked.{IsAsked, IsWordFault}
-use Rattle.mca_run.specs.Refusal.{Contents, IsInput, IsTable, IsRefusal, rows_of, most_rows}
+use Rattle.mca_run.specs.Asked.{IsAsked, IsWordFault, iterations_of}
+use Rattle.mca_run.specs.Items.{code_of}
+use Rattle.mca_run.specs.Machines.{fixed_of}
+use Rattle.mca_run.specs.Refusal.{Contents, IsInput, IsMachine, IsTaken, IsRefusal}
 use Rattle.mca_run.specs.Report.{IsReport}
 use Rattle.mca_run.specs.declared.status.Status.{Status}
 use Rattle.mca_run.specs.declared.status.Status.TheVariants.{Done, ReadFault, WriteFault, Memory}
@@ -81,17 +84,17 @@ pub record LineFailed (words : List (List ℕ)) (contents : Contents) (out err :
 abbrev pub IsFailure : Status → Type 0
 IsFailure status = (status ≡ ReadFault) ⊎ ((status ≡ WriteFault) ⊎ (status ≡ Memory))
 
--- the count of a file that the options name rose: of the assembly, or of the table
+-- the count of a file that the options name rose: of the assembly, or, where they name no built-in machine, of the table
 pub record NamedFault (words : List (List ℕ)) (before after : List ℕ → ℕ) : Type 0 where
   pub options : Options
   pub asked : IsAsked words options
-  pub rose : Rose (before options.input) (after options.input) ⊎ Rose (before options.table) (after options.table)
+  pub rose : Rose (before options.input) (after options.input) ⊎ ((fixed_of options ≡ None) × Rose (before options.table) (after options.table))
 
 -- and the table's count alone rose only where the assembly is right
 pub record NamedInOrder (words : List (List ℕ)) (contents : Contents) (before after : List ℕ → ℕ) : Type 0 where
   pub options : Options
   pub asked : IsAsked words options
-  pub rose : Rose (before options.input) (after options.input) ⊎ ((items : List Item) × IsInput contents options items × Rose (before options.table) (after options.table))
+  pub rose : Rose (before options.input) (after options.input) ⊎ ((items : List Item) × IsInput contents options items × (fixed_of options ≡ None) × Rose (before options.table) (after options.table))
 
 -- what writing the line of a status left: the line of that status, that of want of memory, or a front of one of them
 abbrev pub LineWritten : Sunk → Status → Status → Type 0
@@ -103,5 +106,5 @@ pub record IsComplete (words : List (List ℕ)) (contents : Contents) (result : 
   pub refused : (s : Status) → IsRefusal words contents s → (result ≡ s) ⊎ IsFailure result
   pub words_first : (fault : WordFault) → IsWordFault words fault → result ≡ ReadFault → ⊥
   pub no_assembly : (o : Options) → IsAsked words o → contents o.input ≡ None → IsFailure result
-  pub no_table : (o : Options) (items : List Item) → IsAsked words o → IsInput contents o items → contents o.table ≡ None → IsFailure result
-  pub accepted : (o : Options) (items : List Item) (records : List Record) → IsAsked words o → IsInput contents o items → IsTable contents o records → rows_of o items ≤ most_rows → (result ≡ Done) ⊎ IsFailure result
+  pub no_table : (o : Options) (items : List Item) → IsAsked words o → IsInput contents o items → fixed_of o ≡ None → contents o.table ≡ None → IsFailure result
+  pub accepted : (o : Options) (items : List Item) (m : MachineMeaning) (body : List Bound) → IsAsked words o → IsInput contents o items → IsMachine contents o m → IsTaken m (code_of items) (iterations_of o) body → (result ≡ Done) ⊎ IsFailure result

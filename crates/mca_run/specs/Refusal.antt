@@ -1,20 +1,36 @@
 -- Why an input is refused: what stands in the words and in the contents of the two named files.
-use Rattle.std.specs.Prelude.{◌≡◌, ℕ, ◌+◌, ◌*◌, ◌<◌, ◌≤◌, List, length, Some, None}
+use Rattle.std.specs.Prelude.{◌≡◌, ℕ, ◌+◌, ◌*◌, ◌<◌, ◌≤◌, List, length, true, false, Some, None, Ok, Err}
 use Rattle.std.specs.declared.option.Option.{Option}
+use Rattle.cycle_rules.specs.declared.bound.Bound.{Bound}
+use Rattle.machine_model.specs.Meaning.{MachineMeaning}
+use Rattle.machine_model.specs.declared.tuning.Tuning.{Tuning}
 use Rattle.mca_io.specs.Devices.{Told}
 use Rattle.mca_words.specs.declared.fault.WordFault.{WordFault}
 use Rattle.mca_words.specs.declared.options.Options.{Options}
 use Rattle.rv_asm.specs.Program.{IsProgram, IsFault}
 use Rattle.rv_asm.specs.declared.fault.AsmRefusal.{AsmRefusal}
 use Rattle.rv_asm.specs.declared.item.Item.{Item}
+use Rattle.rv_isa.specs.declared.instr.Instr.{Instr}
+use Rattle.sched_checks.specs.Illness.{illness_of}
+use Rattle.sched_checks.specs.declared.illness.TableIllness.{TableIllness}
+use Rattle.sched_entries.specs.Entries.{entries_of, all_defaults}
 use Rattle.sched_records.specs.Table.{HasRecords, HasFault}
 use Rattle.sched_records.specs.declared.records.Record.{Record}
 use Rattle.sched_records.specs.declared.refusal.TableRefusal.{TableRefusal}
+use Rattle.sched_validate.specs.Bind.{bound_code}
+use Rattle.sched_validate.specs.Machine.{machine_of}
+use Rattle.sched_validate.specs.declared.fault.BindFault.{BindFault}
+use Rattle.sched_validate.specs.declared.fault.BindFault.TheVariants as bind_fault
 use Rattle.mca_run.specs.Asked.{IsAsked, IsWordFault, iterations_of}
 use Rattle.mca_run.specs.Items.{items_fault, code_of}
+use Rattle.mca_run.specs.Machines.{fixed_of, built_in_meaning, IsTuned}
+use Rattle.mca_run.specs.Simple.{not_yet}
+use Rattle.mca_run.specs.declared.machine.BuiltIn.{BuiltIn}
 use Rattle.mca_run.specs.declared.status.Status.{Status}
-use Rattle.mca_run.specs.declared.status.Status.TheVariants.{Words, Assembly, Table, Limit}
+use Rattle.mca_run.specs.declared.status.Status.TheVariants.{Words, Assembly, Table, Machine, Limit, Memory}
 use Rattle.mca_run.specs.declared.status.LimitKind.TheVariants.{AssemblyBytes, TableBytes, RunSize}
+use Rattle.mca_run.specs.declared.status.MachineRefusal.TheVariants as machine
+use Rattle.mca_run.specs.declared.status.OpKind.TheVariants as op_kind
 
 -- the content of each name, or none where no file has it
 abbrev pub Contents : Type 0
@@ -52,10 +68,6 @@ pub record IsTable (contents : Contents) (o : Options) (records : List Record) :
   pub short : length text ≤ most_bytes
   pub has : HasRecords text records
 
--- the rows of the run that is asked for
-abbrev pub rows_of : Options → List Item → ℕ
-rows_of o items = iterations_of o * length (code_of items)
-
 -- the assembly is refused with this status
 pub data IsAsmRefusal (contents : Contents) (o : Options) (status : Status) : Type 0 where
   asm_long : (text : List ℕ) → contents o.input ≡ Some text → most_bytes < length text → status ≡ Limit AssemblyBytes (most_bytes + 1) → IsAsmRefusal contents o status
@@ -66,10 +78,40 @@ pub data IsTableRefusal (contents : Contents) (o : Options) (status : Status) : 
   table_long : (text : List ℕ) → contents o.table ≡ Some text → most_bytes < length text → status ≡ Limit TableBytes (most_bytes + 1) → IsTableRefusal contents o status
   table_fault : (text : List ℕ) (refusal : TableRefusal) → contents o.table ≡ Some text → length text ≤ most_bytes → HasFault text refusal → status ≡ Table refusal → IsTableRefusal contents o status
 
--- the input is refused with this status: the first step that refuses it, of words, assembly, table and size of the run
+-- the machine that the options name: a built-in one, or that of a table without an illness
+pub data IsMachine (contents : Contents) (o : Options) (m : MachineMeaning) : Type 0 where
+  built_in : (b : BuiltIn) (t : Tuning) → fixed_of o ≡ Some b → IsTuned o t → m ≡ built_in_meaning b t → IsMachine contents o m
+  of_table : (records : List Record) (t : Tuning) → fixed_of o ≡ None → IsTable contents o records → illness_of (entries_of records) ≡ None
+      → IsTuned o t → m ≡ machine_of (entries_of records) (all_defaults records) t → IsMachine contents o m
+
+-- a machine takes instructions, so often repeated: it has a class for each, the engine runs their body on it, and the rows are not too many
+pub record IsTaken (m : MachineMeaning) (code : List Instr) (iterations : ℕ) (body : List Bound) : Type 0 where
+  pub bound : bound_code m code ≡ Ok body
+  pub built : not_yet m body ≡ false
+  pub few : iterations * length code ≤ most_rows
+
+-- the status of an instruction that a machine does not run
+abbrev pub opcode_status : BindFault → Status
+opcode_status (bind_fault.NoWriteRes op) = Machine (machine.Opcode op op_kind.NoWriteRes)
+opcode_status (bind_fault.UnsupportedOp op) = Machine (machine.Opcode op op_kind.UnsupportedOp)
+opcode_status bind_fault.Memory = Memory
+
+-- a machine refuses instructions, so often repeated, with this status: the first that has no class; then what is not run yet; then the size of the run
+pub data IsCodeRefusal (m : MachineMeaning) (code : List Instr) (iterations : ℕ) (status : Status) : Type 0 where
+  by_opcode : (fault : BindFault) → bound_code m code ≡ Err fault → status ≡ opcode_status fault → IsCodeRefusal m code iterations status
+  by_not_yet : (body : List Bound) → bound_code m code ≡ Ok body → not_yet m body ≡ true → status ≡ Machine machine.NotYet → IsCodeRefusal m code iterations status
+  by_size : (body : List Bound) → bound_code m code ≡ Ok body → not_yet m body ≡ false → most_rows < iterations * length code
+      → status ≡ Limit RunSize (iterations * length code) → IsCodeRefusal m code iterations status
+
+-- the machine, or its run of the code, is refused with this status: the first step that refuses it, of the table's text, its validity, and what its machine or a built-in one takes
+pub data IsRunRefusal (contents : Contents) (o : Options) (code : List Instr) (status : Status) : Type 0 where
+  by_table : fixed_of o ≡ None → IsTableRefusal contents o status → IsRunRefusal contents o code status
+  by_illness : (records : List Record) (f : TableIllness) → fixed_of o ≡ None → IsTable contents o records → illness_of (entries_of records) ≡ Some f
+      → status ≡ Machine (machine.Record f.number f.kind) → IsRunRefusal contents o code status
+  by_code : (m : MachineMeaning) → IsMachine contents o m → IsCodeRefusal m code (iterations_of o) status → IsRunRefusal contents o code status
+
+-- the input is refused with this status: the first step that refuses it, of words, assembly, machine and run
 pub data IsRefusal (words : List (List ℕ)) (contents : Contents) (status : Status) : Type 0 where
   by_words : (fault : WordFault) → IsWordFault words fault → status ≡ Words fault → IsRefusal words contents status
   by_assembly : (o : Options) → IsAsked words o → IsAsmRefusal contents o status → IsRefusal words contents status
-  by_table : (o : Options) (items : List Item) → IsAsked words o → IsInput contents o items → IsTableRefusal contents o status → IsRefusal words contents status
-  by_size : (o : Options) (items : List Item) (records : List Record) → IsAsked words o → IsInput contents o items → IsTable contents o records
-      → most_rows < rows_of o items → status ≡ Limit RunSize (rows_of o items) → IsRefusal words contents status
+  by_run : (o : Options) (items : List Item) → IsAsked words o → IsInput contents o items → IsRunRefusal contents o (code_of items) status → IsRefusal words contents status

@@ -1,32 +1,16 @@
--- The report: the summary of the one run of the text's instructions.
-use Rattle.std.specs.Prelude.{◌≡◌, ℕ, ◌-◌, ◌≤◌, max, List, ◌++◌, length, map, replicate, codes, decimal}
+-- The report: the summary of the one run of a body.
+use Rattle.std.specs.Prelude.{◌≡◌, ℕ, ◌-◌, max, List, ◌++◌, length, map, replicate, codes, decimal}
+use Rattle.machine_model.specs.Meaning.{MachineMeaning}
+use Rattle.cycle_rules.specs.Bind.{row_of}
 use Rattle.cycle_rules.specs.Run.{IsRun, total_of}
 use Rattle.cycle_rules.specs.declared.bound.Bound.{Bound}
 use Rattle.cycle_rules.specs.declared.times.Times.{Times}
 use Rattle.mca_words.specs.declared.options.Options.{Options}
-use Rattle.sched_records.specs.declared.records.Record.{Record}
 use Rattle.rv_asm.specs.declared.item.Item.{Item}
-use Rattle.rv_isa.specs.Instruction.{reads_of, writes_of}
 use Rattle.rv_isa.specs.declared.instr.Instr.{Instr}
 use Rattle.mca_run.specs.Items.{code_of}
 use Rattle.mca_run.specs.Asked.{IsAsked, iterations_of}
-use Rattle.mca_run.specs.Refusal.{Contents, IsInput, IsTable, rows_of, most_rows}
-use Rattle.mca_run.specs.Simple.{simple_machine, simple_row}
-
--- the entries of the reorder buffer, and the latency of an instruction, so far
-abbrev pub reorder : ℕ
-reorder = 8
-
-abbrev pub latency : ℕ
-latency = 1
-
--- an instruction with the registers that it reads and writes
-abbrev pub bound_of : Instr → Bound
-bound_of i = record { reads = reads_of i; rd = writes_of i }
-
--- a table is the run of these instructions
-abbrev pub IsCodeRun : ℕ → List Instr → List Times → Type 0
-IsCodeRun iterations code table = IsRun (simple_machine reorder) (map (simple_row latency) (map bound_of code)) iterations table
+use Rattle.mca_run.specs.Refusal.{Contents, IsInput, IsMachine, IsTaken}
 
 -- a label in a cell of 19 places, and a number
 abbrev pub summary_line : List ℕ → ℕ → List ℕ
@@ -35,11 +19,23 @@ summary_line label n = label ++ replicate (max 1 (19 - length label)) 32 ++ deci
 abbrev pub summary_lines : ℕ → ℕ → ℕ → List ℕ
 summary_lines iterations rows total = summary_line (codes "Iterations:") iterations ++ summary_line (codes "Instructions:") rows ++ summary_line (codes "Total Cycles:") total
 
--- the report on instructions: the summary of their run
-pub record IsCodeReport (iterations : ℕ) (code : List Instr) (report : List ℕ) : Type 0 where
+-- the report on a body that is bound to a machine, repeated: the summary of its run
+pub record IsCodeReport (m : MachineMeaning) (body : List Bound) (iterations : ℕ) (report : List ℕ) : Type 0 where
   pub table : List Times
-  pub run : IsCodeRun iterations code table
+  pub run : IsRun m (map row_of body) iterations table
   pub bytes : report ≡ summary_lines iterations (length table) (total_of table)
+
+-- the report on a program by a machine
+pub record IsMachineReport (m : MachineMeaning) (code : List Instr) (iterations : ℕ) (report : List ℕ) : Type 0 where
+  pub body : List Bound
+  pub taken : IsTaken m code iterations body
+  pub told : IsCodeReport m body iterations report
+
+-- .. by the machine that the options name
+pub record IsRunReport (contents : Contents) (o : Options) (code : List Instr) (report : List ℕ) : Type 0 where
+  pub machine : MachineMeaning
+  pub named : IsMachine contents o machine
+  pub by : IsMachineReport machine code (iterations_of o) report
 
 -- the report that words and contents ask for
 pub record IsReport (words : List (List ℕ)) (contents : Contents) (report : List ℕ) : Type 0 where
@@ -47,7 +43,4 @@ pub record IsReport (words : List (List ℕ)) (contents : Contents) (report : Li
   pub asked : IsAsked words options
   pub items : List Item
   pub input : IsInput contents options items
-  pub records : List Record
-  pub table : IsTable contents options records
-  pub few : rows_of options items ≤ most_rows
-  pub told : IsCodeReport (iterations_of options) (code_of items) report
+  pub run : IsRunReport contents options (code_of items) report

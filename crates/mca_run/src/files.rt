@@ -44,6 +44,7 @@ pub(crate) fn read_assembly<F: Shelf>(
     shelf: &mut F,
 ) -> Result<AsmText, Status>
     ensures ok { IfOk result (λ asm. (contents : Contents) → Tells (F.told shelf.old) contents → IsInput contents options.now asm.items) }
+    ensures end { OnOk result (IsAtEnd (F.rest shelf.new)) }
     ensures some { IfOk result (λ asm. 0 < length asm.items) }
     ensures few { IfOk result (λ asm. length asm.items ≤ 4096) }
     ensures all { IfOk result (λ asm. length (code_of asm.items) ≡ length asm.items) }
@@ -64,7 +65,8 @@ pub(crate) fn read_assembly<F: Shelf>(
 /// The records of a table's text, or the status that refuses it.
 fn records(alloc: Global, text: &[u8]) -> Result<Records, Status>
     requires { length text.now ≤ 8388608 }
-    ensures { IsTabled text.now result }
+    ensures tabled { IsTabled text.now result }
+    ensures few { IfOk result (λ records. length records ≤ 8192) }
 {
     match read_table(alloc, text) {
         Ok(records) => Ok(records),
@@ -82,6 +84,7 @@ pub(crate) fn read_records<F: Shelf>(
     shelf: &mut F,
 ) -> Result<Records, Status>
     ensures ok { IfOk result (λ records. (contents : Contents) → Tells (F.told shelf.old) contents → IsTable contents options.now records) }
+    ensures few { IfOk result (λ records. length records ≤ 8192) }
     ensures end { OnOk result (IsAtEnd (F.rest shelf.new)) }
     ensures err { IfErr result (λ status. (contents : Contents) → Tells (F.told shelf.old) contents → MayRefuseTable contents options.now status) }
     ensures of_files { IfErr result OfFiles }

@@ -1,8 +1,11 @@
 //! The items of a program: so far one region, without marks.
-ghost use Rattle.std.specs.Prelude.{◌≡◌, ◌≤◌, ◌<◌, length, None};
+ghost use Rattle.std.specs.Prelude.{◌≡◌, ◌≤◌, ◌<◌, length, None, IfOk};
 ghost use Rattle.mca_run.specs.Items.{items_fault, refused_from, code_of};
 
+use mca_fixed::NoMemory;
 use rv_asm::{AsmKind, AsmRefusal, Item};
+use rv_isa::Instr;
+use std::alloc::Global;
 
 /// The most instructions of a region.
 const MOST: usize = 4096;
@@ -36,4 +39,17 @@ pub(crate) fn items_fault(items: &[Item]) -> Option<AsmRefusal>
         });
     }
     refused(items)
+}
+
+/// The instructions among the items.
+pub(crate) fn code(alloc: Global, items: &[Item]) -> Result<Vec<Instr>, NoMemory>
+    ensures { IfOk result (λ code. code.items ≡ code_of items.now) }
+{
+    let mut code = Vec::with_capacity(alloc, items.len())?;
+    for item in items {
+        if let Item::Code(_, instr) = item {
+            code.push(*instr)?;
+        }
+    }
+    Ok(code)
 }

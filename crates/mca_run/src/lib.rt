@@ -11,13 +11,16 @@ mod asked;
 mod engine;
 mod files;
 mod items;
+mod machine;
 mod report;
+mod simple;
 mod status;
 #[cfg(test)]
 mod tests;
 mod top;
 
-pub use status::{LimitKind, Status};
+pub use sched_checks::IllKind;
+pub use status::{LimitKind, MachineRefusal, OpKind, Status};
 pub use top::analyse;
 
 /// Words and contents have at most one answer: one refusal, or one report, and never both.

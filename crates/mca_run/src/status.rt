@@ -1,11 +1,13 @@
 //! How a call of the tool ends.
 ghost use Rattle.std.specs.Prelude.{◌≡◌, ◌++◌, IfOk, string_bytes, codes, decimal};
 ghost use Rattle.mca_words.specs.Kinds.{kind_name as word_kind_name};
-ghost use Rattle.mca_run.specs.Lines.{line_of, number_of, table_kind_name, limit_kind_name};
+ghost use Rattle.mca_run.specs.Lines.{line_of, number_of, table_kind_name, op_kind_name, machine_line, limit_kind_name};
 
 use mca_fixed::NoMemory;
 use mca_words::{WordFault, WordKind};
 use rv_asm::AsmRefusal;
+use rv_isa::{Op, mnemonic};
+use sched_checks::IllKind;
 use sched_records::{TableKind, TableRefusal};
 use std::alloc::Global;
 
@@ -33,6 +35,39 @@ impl LimitKind {
     }
 }
 
+/// Why a machine does not run an opcode.
+#[derive(Clone, Copy, Debug, PartialEq, Eq)]
+pub enum OpKind {
+    /// The machine has no class for it.
+    NoWriteRes,
+    /// Its class is marked as not supported.
+    UnsupportedOp,
+}
+
+impl OpKind {
+    /// The kind's name, as an error line prints it.
+    pub fn name(self) -> &'static str
+        ensures { result.now ≡ op_kind_name self }
+    {
+        match self {
+            OpKind::NoWriteRes => "NoWriteRes",
+            OpKind::UnsupportedOp => "UnsupportedOp",
+        }
+    }
+}
+
+/// Why a table is no machine, or a machine does not run a program.
+#[derive(Clone, Copy, Debug, PartialEq, Eq)]
+pub enum MachineRefusal {
+    /// A record of the table, numbered from 1, or 0 for the table as a whole, has an illness. It is never
+    /// `IllKind::Memory`.
+    Record(u32, IllKind),
+    /// The machine does not run an opcode of the program.
+    Opcode(Op, OpKind),
+    /// The engine does not run the program on the machine yet.
+    NotYet,
+}
+
 /// How a call of the tool ended.
 #[derive(Clone, Copy, Debug, PartialEq, Eq)]
 pub enum Status {
@@ -44,6 +79,8 @@ pub enum Status {
     Assembly(AsmRefusal),
     /// The scheduling table was refused.
     Table(TableRefusal),
+    /// The machine was refused, or it refused the program.
+    Machine(MachineRefusal),
     /// An input passed a limit: a file, with the limit plus one; a run, with its rows.
     Limit(LimitKind, u64),
     /// A named file could not be read.
@@ -56,7 +93,7 @@ pub enum Status {
 
 impl Status {
     /// The status's number, with which the program ends: 0 for `Done`, 1 for the words, 2 for the
-    /// assembly, 3 for the table, 5 for a limit, 6 and 7 for a device, 8 for want of memory.
+    /// assembly, 3 for the table, 4 for the machine, 5 for a limit, 6 and 7 for a device, 8 for want of memory.
     pub fn number(&self) -> u8
         ensures { result ≡ number_of self.now }
     {
@@ -65,6 +102,7 @@ impl Status {
             Status::Words(_) => 1,
             Status::Assembly(_) => 2,
             Status::Table(_) => 3,
+            Status::Machine(_) => 4,
             Status::Limit(_, _) => 5,
             Status::ReadFault => 6,
             Status::WriteFault => 7,
@@ -134,6 +172,34 @@ fn limit_line(alloc: Global, kind: &str, number: u64) -> Result<String, NoMemory
     Ok(text)
 }
 
+/// The line of an opcode that a machine does not run.
+fn opcode_line(alloc: Global, op: &str, kind: &str) -> Result<String, NoMemory>
+    ensures { IfOk result (λ text. string_bytes text ≡ codes "mca: machine opcode " ++ op.now ++ codes ": " ++ kind.now ++ codes "\n") }
+{
+    let mut text = String::from_str(alloc, "mca: machine opcode ")?;
+    text.push_str(op)?;
+    text.push_str(": ")?;
+    text.push_str(kind)?;
+    text.push_str("\n")?;
+    Ok(text)
+}
+
+/// The line of a refused machine.
+fn machine_line(alloc: Global, refusal: MachineRefusal) -> Result<String, NoMemory>
+    ensures { IfOk result (λ text. string_bytes text ≡ machine_line refusal) }
+{
+    match refusal {
+        MachineRefusal::Record(number, kind) => kind_line(
+            alloc,
+            "mca: machine record ",
+            u64::from(number),
+            kind.name(),
+        ),
+        MachineRefusal::Opcode(op, kind) => opcode_line(alloc, mnemonic(op), kind.name()),
+        MachineRefusal::NotYet => Ok(String::from_str(alloc, "mca: machine: NotYet\n")?),
+    }
+}
+
 /// The line that tells a status; none for `Done`.
 pub(crate) fn line(alloc: Global, status: Status) -> Result<String, NoMemory>
     ensures { IfOk result (λ text. string_bytes text ≡ line_of status) }
@@ -155,6 +221,7 @@ pub(crate) fn line(alloc: Global, status: Status) -> Result<String, NoMemory>
             u64::from(refusal.line),
             table_kind_name(refusal.kind),
         ),
+        Status::Machine(refusal) => machine_line(alloc, refusal),
         Status::Limit(kind, number) => limit_line(alloc, kind.name(), number),
         Status::ReadFault => Ok(String::from_str(alloc, "mca: read fault\n")?),
         Status::WriteFault => Ok(String::from_str(alloc, "mca: write fault\n")?),

@@ -1,5 +1,5 @@
 //! Whole commands over devices in memory: the bytes and the status for worked inputs, with memory to be had.
-use crate::{LimitKind, Status, analyse};
+use crate::{LimitKind, MachineRefusal, Status, analyse};
 use mca_io::{MemShelf, MemSink};
 use std::alloc::Global;
 use std::process::Abort;
@@ -68,7 +68,7 @@ const TABLE: &str =
 const ADD: &str = "add a0, a0, a0\n";
 
 /// An assembly, the status's number, the report and the line of error.
-const ASSEMBLIES: [(&str, u8, &str, &str); 13] = [
+const ASSEMBLIES: [(&str, u8, &str, &str); 15] = [
     (
         "add a0, a0, a0\n",
         0,
@@ -83,15 +83,27 @@ const ASSEMBLIES: [(&str, u8, &str, &str); 13] = [
     ),
     (
         "li a0, 0x12345678\ncall f\n",
-        0,
-        "Iterations:        100\nInstructions:      400\nTotal Cycles:      403\n",
+        4,
         "",
+        "mca: machine opcode addiw: NoWriteRes\n",
     ),
     (
         "addi a0, a0, 2047\n",
         0,
         "Iterations:        100\nInstructions:      100\nTotal Cycles:      103\n",
         "",
+    ),
+    (
+        "mul a0, a0, a0\n",
+        4,
+        "",
+        "mca: machine opcode mul: NoWriteRes\n",
+    ),
+    (
+        "add a0, a0, a0\nsll a0, a1, a2\nmul a0, a0, a0\n",
+        4,
+        "",
+        "mca: machine opcode sll: NoWriteRes\n",
     ),
     (
         "add a0, a0, a0\nc.addi a0, 1\n",
@@ -145,7 +157,7 @@ const ASSEMBLIES: [(&str, u8, &str, &str); 13] = [
 ];
 
 /// Words, and the same.
-const WORDS: [(&str, u8, &str, &str); 15] = [
+const WORDS: [(&str, u8, &str, &str); 20] = [
     ("-table=b.td", 1, "", "mca: word 2: NoInput\n"),
     ("a.s", 1, "", "mca: word 2: NoMachine\n"),
     ("-iterations=x a.s", 1, "", "mca: word 1: BadNumber\n"),
@@ -153,12 +165,7 @@ const WORDS: [(&str, u8, &str, &str); 15] = [
     ("-mcpu=huge a.s", 1, "", "mca: word 1: UnknownMachine\n"),
     ("a.s a.s", 1, "", "mca: word 2: TooManyInputs\n"),
     ("--help", 1, "", "mca: word 1: UnknownOption\n"),
-    (
-        "-table=b.td -dispatch=2 a.s",
-        1,
-        "",
-        "mca: word 0: NotYet\n",
-    ),
+    ("-table=b.td -lqueue=2 a.s", 1, "", "mca: word 0: NotYet\n"),
     ("-table=b.td a.s -timeline", 1, "", "mca: word 0: NotYet\n"),
     (
         "-table=b.td a.s -noalias=false",
@@ -178,13 +185,28 @@ const WORDS: [(&str, u8, &str, &str); 15] = [
         "Iterations:        100\nInstructions:      100\nTotal Cycles:      103\n",
         "",
     ),
+    (
+        "-table=b.td -dispatch=1 a.s",
+        0,
+        "Iterations:        100\nInstructions:      100\nTotal Cycles:      103\n",
+        "",
+    ),
+    (
+        "-table=b.td -dispatch=2 a.s",
+        4,
+        "",
+        "mca: machine: NotYet\n",
+    ),
+    ("-mcpu=tiny a.s", 4, "", "mca: machine: NotYet\n"),
+    ("-mcpu=dual a.s", 4, "", "mca: machine: NotYet\n"),
+    ("a.s -mcpu quad", 4, "", "mca: machine: NotYet\n"),
     ("-table=b.td b.s", 6, "", "mca: read fault\n"),
     ("-table=c.td a.s", 6, "", "mca: read fault\n"),
     ("-table=b.td ", 6, "", "mca: read fault\n"),
 ];
 
 /// A table, and the same.
-const TABLES: [(&str, u8, &str, &str); 4] = [
+const TABLES: [(&str, u8, &str, &str); 9] = [
     (
         "def P : ProcResource<1>;\n\ndef : WriteRes<WriteIALU, [P,\n",
         3,
@@ -203,11 +225,36 @@ const TABLES: [(&str, u8, &str, &str); 4] = [
         "",
         "mca: table line 2: RepeatedName\n",
     ),
+    ("", 4, "", "mca: machine record 0: NoModel\n"),
     (
+        "def M : SchedMachineModel { let IssueWidth = 1; let MicroOpBufferSize = 8; }\ndef PA : ProcResource<1>;\ndef : WriteRes<WriteIALU, [PA, PA]>;\n",
+        4,
         "",
-        0,
-        "Iterations:        100\nInstructions:      100\nTotal Cycles:      103\n",
+        "mca: machine record 3: UseCannotBeMet\n",
+    ),
+    (
+        "def M : SchedMachineModel {\n  let IssueWidth = 2;\n  let MicroOpBufferSize = 32;\n}\nlet SchedModel = M in {\ndef PA : ProcResource<1>;\ndef PB : ProcResource<1>;\ndef PAB : ProcResGroup<[PA, PB]>;\ndef PD : ProcResource<1>;\ndef PM : ProcResource<1>;\ndef : WriteRes<WriteIALU, [PA, PA]>;\ndef : WriteRes<WriteJmp, [PB]>;\n}\n",
+        4,
         "",
+        "mca: machine record 7: UseCannotBeMet\n",
+    ),
+    (
+        "def M : SchedMachineModel {\n  let IssueWidth = 2;\n  let MicroOpBufferSize = 32;\n}\nlet SchedModel = M in {\ndef PA : ProcResource<1>;\ndef PB : ProcResource<1>;\ndef PAB : ProcResGroup<[PA, PB]>;\ndef : WriteRes<WriteShiftImm, [PAB]>;\ndef : WriteRes<WriteIMul, [PA]> { let Latency = 3; }\n}\n",
+        4,
+        "",
+        "mca: machine opcode add: NoWriteRes\n",
+    ),
+    (
+        "def M : SchedMachineModel { let IssueWidth = 1; let MicroOpBufferSize = 8; }\ndef PA : ProcResource<1>;\ndef : WriteRes<WriteIALU, [PA]>;\n",
+        4,
+        "",
+        "mca: machine: NotYet\n",
+    ),
+    (
+        "def M : SchedMachineModel { let IssueWidth = 1; let MicroOpBufferSize = 8; }\ndef : WriteRes<WriteIALU, []> { let Unsupported = 1; }\n",
+        4,
+        "",
+        "mca: machine opcode add: UnsupportedOp\n",
     ),
 ];
 
@@ -232,6 +279,17 @@ fn each_table_has_its_status_and_its_bytes(rt: HostRuntime) -> Result<(), Fail> 
     for (table, number, out, err) in &TABLES {
         compare(rt.alloc(), BOTH, (ADD, table), (*number, out, err), &rt)?;
     }
+    // Each instruction that a pseudo-instruction stands for has a class here.
+    let classes =
+        "def M : SchedMachineModel { let IssueWidth = 1; let MicroOpBufferSize = 8; }\ndef : WriteRes<WriteIALU, []>;\ndef : WriteRes<WriteIALU32, []>;\ndef : WriteRes<WriteJalr, []>;\n";
+    let report = "Iterations:        100\nInstructions:      400\nTotal Cycles:      403\n";
+    compare(
+        rt.alloc(),
+        BOTH,
+        ("li a0, 0x12345678\ncall f\n", classes),
+        (0, report, ""),
+        &rt,
+    )?;
     // The assembly is read first.
     let line = "mca: assembly line 1: UnknownMnemonic\n";
     compare(
@@ -312,6 +370,16 @@ fn a_read_that_fails_in_mid_stream_is_a_read_fault(rt: HostRuntime) -> Result<()
         assert_eq!(rt; left.out.written(), b"".as_slice());
         assert_eq!(rt; left.err.written(), b"mca: read fault\n".as_slice());
     }
+    Ok(())
+}
+
+#[test]
+fn a_built_in_machine_reads_no_table(rt: HostRuntime) -> Result<(), Fail> {
+    // The fourth call would open a table.
+    let files = (ADD.as_bytes(), TABLE.as_bytes());
+    let words = "-mcpu=tiny a.s";
+    let left = command(rt.alloc(), words, files, &[4], AMPLE, AMPLE, &rt)?;
+    assert_eq!(rt; left.status, Status::Machine(MachineRefusal::NotYet));
     Ok(())
 }
 

@@ -7,19 +7,18 @@ ghost use Rattle.mca_run.specs.Refusal.{Contents, Tells, IsRefusal};
 ghost use Rattle.mca_run.specs.Report.{IsReport};
 ghost use Rattle.mca_run.specs.Outcome.{sunk, IsTold, TellsLine, IsReported, ReportFailed, LineFailed, MayTell, NamedFault, NamedInOrder, LineWritten, IsComplete};
 ghost use Rattle.mca_run.specs.declared.status.LimitKind.{LimitKind as LimitOf};
+ghost use Rattle.mca_run.specs.declared.status.MachineRefusal.{MachineRefusal as MachineRefusalOf};
 ghost use Rattle.mca_words.specs.declared.fault.WordFault.{WordFault as WordFaultOf};
 ghost use Rattle.rv_asm.specs.declared.fault.AsmRefusal.{AsmRefusal as AsmRefusalOf};
 ghost use Rattle.sched_records.specs.declared.refusal.TableRefusal.{TableRefusal as TableRefusalOf};
 
-use crate::asked::{asked, iterations};
-use crate::files::{read_assembly, read_records};
-use crate::report::report_on;
-use crate::status::{LimitKind, Status, line};
+use crate::asked::asked;
+use crate::files::read_assembly;
+use crate::items::code;
+use crate::machine::report_as_asked;
+use crate::status::{Status, line};
 use mca_io::{Failed, Shelf, Sink, write_whole};
 use std::alloc::Global;
-
-/// The most rows of a run.
-const MOST_ROWS: u64 = 1_048_576;
 
 /// Makes the report, or tells why there is none.
 fn work<F: Shelf>(alloc: Global, words: &[String], shelf: &mut F) -> Result<String, Status>
@@ -40,19 +39,10 @@ fn work<F: Shelf>(alloc: Global, words: &[String], shelf: &mut F) -> Result<Stri
         Ok(asm) => asm,
         Err(status) => return Err(status),
     };
-    let _records = match read_records(alloc, &options, shelf) {
-        Ok(records) => records,
-        Err(status) => return Err(status),
+    let Ok(code) = code(alloc, asm.items.as_slice()) else {
+        return Err(Status::Memory);
     };
-    let iterations = iterations(&options);
-    let rows = u64::from(iterations) * asm.items.len() as u64;
-    if rows > MOST_ROWS {
-        return Err(Status::Limit(LimitKind::RunSize, rows));
-    }
-    match report_on(alloc, asm.items.as_slice(), iterations) {
-        Ok(text) => Ok(text),
-        Err(_) => Err(Status::Memory),
-    }
+    report_as_asked(alloc, &options, shelf, &code)
 }
 
 /// Writes the line of a status, and answers the status that then stands.
@@ -86,6 +76,8 @@ pub fn analyse<F: Shelf, O: Sink, E: Sink>(
         (refusal : AsmRefusalOf) → result ≡ Status.Assembly refusal → IsRefusal (map string_bytes words.now) contents (Status.Assembly refusal) }
     ensures table { (contents : Contents) → Tells (F.told shelf.old) contents →
         (refusal : TableRefusalOf) → result ≡ Status.Table refusal → IsRefusal (map string_bytes words.now) contents (Status.Table refusal) }
+    ensures machine { (contents : Contents) → Tells (F.told shelf.old) contents →
+        (refusal : MachineRefusalOf) → result ≡ Status.Machine refusal → IsRefusal (map string_bytes words.now) contents (Status.Machine refusal) }
     ensures limit { (contents : Contents) → Tells (F.told shelf.old) contents →
         (kind : LimitOf) (n : ℕ) → result ≡ Status.Limit kind n → IsRefusal (map string_bytes words.now) contents (Status.Limit kind n) }
 
@@ -110,7 +102,7 @@ pub fn analyse<F: Shelf, O: Sink, E: Sink>(
         (sunk (O.contents out.old) (O.contents out.new) (O.faults out.old) (O.faults out.new))
         (sunk (E.contents err.old) (E.contents err.new) (E.faults err.old) (E.faults err.new)) }
 
-    // Done: both files were read to their end, and the report of its one run was written.
+    // Done: each file that is read was read to its end, and the report of its one run was written.
     ensures done { (contents : Contents) → Tells (F.told shelf.old) contents → result ≡ Status.Done →
         IsReported (map string_bytes words.now) contents
         (sunk (O.contents out.old) (O.contents out.new) (O.faults out.old) (O.faults out.new))

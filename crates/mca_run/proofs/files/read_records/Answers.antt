@@ -12,7 +12,7 @@ returns-in-Err-TooLong-clause-err g c = λ contents tells. long_table (g.F.Shelf
 pub returns-in-Ok-clause-err : goal.returns-in-Ok-clause-err
 returns-in-Ok-clause-err g c = tabled_err (g.F.Shelf.told c.args.shelf.now) c.args.options.now c.in-Ok.text.items c.records.result c.in-Ok.ensures.short
     (subst (λ name. IfContent (g.F.Shelf.told c.args.shelf.now name) (λ content. c.in-Ok.text.items ≡ content)) c.as_str.ensures c.in-Ok.ensures.content)
-    (subst (λ t. IsTabled t c.records.result) c.deref.ensures.value c.records.ensures)
+    (subst (λ t. IsTabled t c.records.result) c.deref.ensures.value c.records.ensures.tabled)
 
 pub returns-in-Ok-clause-of_files : goal.returns-in-Ok-clause-of_files
-returns-in-Ok-clause-of_files g c = tabled_of_files c.deref.result.now c.records.result c.records.ensures
+returns-in-Ok-clause-of_files g c = tabled_of_files c.deref.result.now c.records.result c.records.ensures.tabled
