@@ -1,4 +1,5 @@
--- How many cycles a run can take, and how many turns of an engine that skips the cycles in which nothing happens.
+-- Two numbers that are meant to bound the cycles of a run, and the turns of an engine that skips the cycles in which nothing happens.
+-- They are stated here, and computed on worked rows in `Worked`. No law says yet that a run or an engine keeps below them.
 use Rattle.std.specs.Prelude.{zero, suc, ℕ, ◌+◌, ◌-◌, ◌/◌, max, ℤ, pos, negsuc, List, [], ◌∷◌, length}
 use Rattle.machine_model.specs.Meaning.{MachineMeaning}
 use Rattle.machine_model.specs.declared.facts.Use.{Use}
@@ -14,7 +15,7 @@ abbrev pub lag : ℤ → ℕ
 lag (pos a) = 0
 lag (negsuc a) = a + 1
 
--- the most that any advance of the machine adds
+-- the most that an advance of the machine's classes adds
 unfoldable pub most_lag : MachineMeaning → ℕ
 most_lag m = max_below m.read_count (λ r. max_below m.write_count (λ w. lag (m.advance r w)))
 
@@ -27,10 +28,10 @@ reach (w ∷ ws) = max w.hold (reach ws)
 abbrev pub cycles_of : ℕ → ℕ → ℕ
 cycles_of uops width = (uops + width - 1) / width
 
--- the total of a run is at most this
+-- meant for the total of a run: 1, and for each row 4, its latency, the most lag, its reach and the cycles of its micro-ops
 unfoldable pub cycle_bound : Input → ℕ
 cycle_bound g = 1 + sum_below g.rows (λ j. 4 + (g.row j).latency + most_lag g.machine + reach (g.row j).uses + cycles_of (uops_of g j) g.machine.limits.width)
 
--- and an engine turns at most so often: eight times for each row, and once for each of its uses
+-- meant for the turns of an engine: 1, and for each row 8 and as many as it has uses
 unfoldable pub turn_bound : Input → ℕ
 turn_bound g = 1 + sum_below g.rows (λ j. 8 + length (g.row j).uses)

@@ -69,7 +69,7 @@ fits_stores g t j c = not (is_store (g.row j).kind) || has_room g.machine.limits
 unfoldable pub fits_buffers : Input → Table → ℕ → ℕ → Bool
 fits_buffers g t j c = list_all (λ w. has_room (entries (g.machine.buffer w.resource)) (count_below j (λ k. names w.resource (g.row k) && nat_lt c (t k).issue))) (g.row j).uses
 
--- a reserved row takes no buffer entry: it issues as it dispatches
+-- a reserved row needs no buffer entry, but must be able to issue: it issues as it dispatches
 unfoldable pub can_dispatch : Input → Table → ℕ → ℕ → Bool
 can_dispatch g t j c = follows (λ k. (t k).dispatch) j c
     && fits_group g t j c && fits_reorder g t j c && fits_registers g t j c && fits_loads g t j c && fits_stores g t j c

@@ -10,7 +10,7 @@ use Rattle.cycle_rules.specs.Issue.{can_leave}
 use Rattle.cycle_rules.specs.Retire.{can_retire}
 use Rattle.cycle_rules.specs.declared.times.Times.{Times}
 
--- A row has three events, one for each phase: 0 it retires, 1 it issues, 2 it dispatches. A reserved row issues by its dispatch, and its event of phase 1 never falls. What an event takes are the units of the row, where it issues by it.
+-- A row has three events, one for each phase: 0 it retires, 1 it issues, 2 it dispatches. A reserved row issues by its dispatch, and its event of phase 1 is allowed in no cycle. What an event takes are the units of the row, where it issues by it.
 
 abbrev pub events : Input → ℕ
 events g = 3 * g.rows
@@ -27,7 +27,7 @@ units_or_none (Some f) = f.what
 abbrev pub known_of : Input → Known (List ℕ) → ℕ → ℕ → Option (Fall (List ℕ))
 known_of g known p j = if nat_lt j g.rows then known (event g.rows p j) else None
 
--- the table of what is known: a time that is not known is read as ahead
+-- the table of what is known: an event that is not known is read as one of the cycle ahead
 abbrev pub table_of : Input → ℕ → Known (List ℕ) → Table
 table_of g ahead known j = record {
   dispatch = cycle_or ahead (known_of g known 2 j);

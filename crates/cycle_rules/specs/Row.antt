@@ -13,7 +13,7 @@ use Rattle.cycle_rules.specs.declared.times.Times.{Times}
 pub record Row : Type 0 where
   pub uops : ℕ
   pub latency : ℕ
-  -- in use order
+  -- in the order in which they are met
   pub uses : List Use
   -- one of its uses names a resource with a buffer of 0
   pub reserved : Bool

@@ -32,6 +32,6 @@ pub record IsRunOf (g : Input) (table : List Times) : Type 0 where
 abbrev pub IsRun : MachineMeaning → List Row → ℕ → List Times → Type 0
 IsRun m body iterations table = IsRunOf (input m body iterations) table
 
--- the cycles of a run: one more than its last retirement
+-- the cycles of a run: one more than the retirement of its last row
 abbrev pub total_of : List Times → ℕ
 total_of table = (times table (length table - 1)).retire + 1

@@ -1,5 +1,5 @@
 //! The cycle rules: when each instruction of a repeated region dispatches, issues, completes and
-//! retires on an out-of-order machine, and that there is one such run.
+//! retires on an out-of-order machine, and that there is at most one such run.
 //!
 //! The rules stand in `specs/`: `Row` and `Dispatch`, `Issue`, `Retire` with `Pick` for the units, `Seen`
 //! for what a condition may look at, `Run` for the run as a whole. They follow the outline of LLVM's
@@ -29,7 +29,7 @@ pub fn one_run()
 {}
 
 /// By any rules under which each event falls in the least cycle that is allowed, there is below every
-/// bound one schedule and no other. The run of the machine is one case.
+/// bound one schedule and no other. The rules of the machine are one case.
 pub fn one_schedule()
     ensures some { (r : Rules (List ℕ)) (m bound : ℕ) → IsSchedule r m bound (made r m bound) }
     ensures one { (r : Rules (List ℕ)) (m bound : ℕ) (v w : Known (List ℕ)) →
@@ -45,8 +45,8 @@ pub fn run_exists()
         (j : ℕ) → j < g.rows → (times (run_below g bound) j).retire < bound }
 {}
 
-/// Runs that were worked out by hand are runs by the definitions, and tables that break one rule each
-/// are not.
+/// Tables that were worked out by hand pass the test of a run's conditions, and tables that break one
+/// rule each do not. And the numbers of `Bounds` on worked rows.
 pub fn worked()
     ensures runs { worked_runs ≡ replicate 23 true }
     ensures wrong { wrong_runs ≡ replicate 15 false }

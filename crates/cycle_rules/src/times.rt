@@ -28,7 +28,7 @@ pub struct Timeline {
 }
 
 impl Timeline {
-    /// The cycles of the whole run: one more than the last retirement.
+    /// The cycles of the whole run: one more than the retirement of its last row.
     pub fn total(&self) -> u64
         requires some { 0 < length self.now.rows }
         requires fits { (times self.now.rows (length self.now.rows - 1)).retire < 2 ^ 64 - 1 }
