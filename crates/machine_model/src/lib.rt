@@ -7,6 +7,7 @@
 mod answers;
 mod facts;
 mod fixed;
+mod laws;
 mod limits;
 mod machine;
 mod tuning;
@@ -14,6 +15,7 @@ mod tuning;
 pub use answers::{Binding, ClassAnswer, UnitOwner};
 pub use facts::{FileShare, Use, WriteFacts};
 pub use fixed::{Dual, Fixed, Quad, Tiny};
+pub use laws::one_use_order;
 pub use limits::Limits;
 pub use machine::Machine;
 pub use rv_isa::Kind;
