@@ -1,4 +1,5 @@
 pub mod WorkedRuns
+pub mod PassesRun
 pub mod Counts
 pub mod Unique
 pub mod Exists

@@ -1,4 +1,4 @@
--- Runs that were worked out by hand, to try the definitions on: tables of the times of runs, and tables that break one rule each.
+-- Runs that were worked out by hand, to try the definitions on: tables that are runs, and tables that break one rule each.
 use Rattle.std.specs.Prelude.{ℕ, ◌+◌, ◌-◌, ℤ, pos, negsuc, List, [], ◌∷◌, ◌++◌, length, replicate, Bool, true, false, not, ◌&&◌, None, nat_lt, nat_eq, if◌then◌else◌}
 use Rattle.std.specs.Cmp.Lexicographic.{pointwise}
 use Rattle.machine_model.specs.Meaning.{MachineMeaning}
@@ -18,7 +18,7 @@ use Rattle.cycle_rules.specs.Seen.{sees}
 use Rattle.cycle_rules.specs.declared.bound.Source.{Source}
 use Rattle.cycle_rules.specs.declared.times.Times.{Times}
 
--- the conditions of a run (`Run`) on a table, as one test that computes
+-- whether a table is a run, as a test
 
 abbrev pub first_at : (ℕ → Bool) → ℕ → Bool
 first_at p c = p c && all_below c (λ b. not (p b))

@@ -8,12 +8,13 @@
 #![tactic(auto)]
 
 ghost use Rattle.std.specs.Prelude.{◌≡◌, ◌≤◌, ◌<◌, ℕ, List, [], ◌∷◌, replicate, true, false};
+ghost use Rattle.std.specs.Bool.{Decides};
 ghost use Rattle.machine_model.specs.Meaning.{MachineMeaning};
 ghost use Rattle.cycle_rules.specs.Row.{Row, Input, times};
 ghost use Rattle.cycle_rules.specs.Run.{IsRun, IsRunOf};
 ghost use Rattle.cycle_rules.specs.Schedule.{Rules, Known, IsSchedule, made};
 ghost use Rattle.cycle_rules.specs.Events.{events, rules_of, run_below, retired_below};
-ghost use Rattle.cycle_rules.specs.Worked.{worked_runs, wrong_runs, worked_bounds};
+ghost use Rattle.cycle_rules.specs.Worked.{passes, worked_runs, wrong_runs, worked_bounds};
 ghost use Rattle.cycle_rules.specs.declared.times.Times.{Times as TimesOf};
 
 mod bound;
@@ -45,9 +46,10 @@ pub fn run_exists()
         (j : ℕ) → j < g.rows → (times (run_below g bound) j).retire < bound }
 {}
 
-/// Tables that were worked out by hand pass the test of a run's conditions, and tables that break one
-/// rule each do not. And the numbers of `Bounds` on worked rows.
+/// A test tells runs from other tables; tables that were worked out by hand pass it, and tables that
+/// break one rule each do not. And the numbers of `Bounds` on worked rows.
 pub fn worked()
+    ensures test { (g : Input) (table : List TimesOf) → Decides (passes g table) (IsRunOf g table) }
     ensures runs { worked_runs ≡ replicate 23 true }
     ensures wrong { wrong_runs ≡ replicate 15 false }
     ensures bounds { worked_bounds ≡ 8 ∷ 10 ∷ 48 ∷ 10 ∷ 26 ∷ 28 ∷ [] }

@@ -1,5 +1,9 @@
+use Rattle.cycle_rules.proofs.PassesRun.{passes_decides}
 use Rattle.cycle_rules.proofs.WorkedRuns.{runs_pass, wrong_fail, bounds_are}
 use Rattle.cycle_rules.proofs.worked.Goals as goal
+
+pub returns-clause-test : goal.returns-clause-test
+returns-clause-test c = passes_decides
 
 pub returns-clause-runs : goal.returns-clause-runs
 returns-clause-runs c = runs_pass
