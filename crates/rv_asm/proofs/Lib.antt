@@ -3,6 +3,7 @@ mod Commas
 mod First
 mod Numbering
 mod Settled
+mod Aside
 mod Ended
 mod Ran
 mod Through

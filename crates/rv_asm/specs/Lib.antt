@@ -16,3 +16,4 @@ pub mod LongLines
 pub mod Steps
 pub mod Spelled
 pub mod KindNames
+pub mod Listing

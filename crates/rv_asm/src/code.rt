@@ -12,6 +12,7 @@ use crate::fault::Fault;
 use crate::form::{Made, Makes};
 use crate::instruction::meaning;
 use crate::item::Item;
+use crate::listing::Listing;
 use crate::names::Names;
 use crate::operand::Parts;
 use mca_fixed::NoMemory;
@@ -62,8 +63,8 @@ fn made_by(alloc: Global, makes: Makes, parts: &Parts<'_>, imm: Imm) -> Result<V
     }
 }
 
-fn push_code(line: u32, list: &[Instr], items: &mut Vec<Item>) -> Result<(), NoMemory>
-    ensures { OnOk result (items.new.items ≡ items.old.items ++ map (λ i. item.Code line i) list.now) }
+fn push_code(line: u32, list: &[Instr], items: &mut Listing) -> Result<(), NoMemory>
+    ensures { OnOk result (items.new ≡ items.old ++ map (λ i. item.Code line i) list.now) }
 {
     for instr in list {
         items.push(Item::Code(line, *instr))?;
@@ -77,11 +78,11 @@ fn put_made(
     line: u32,
     made: &Made<'_>,
     names: &mut Names,
-    items: &mut Vec<Item>,
+    items: &mut Listing,
 ) -> Result<(), NoMemory>
     requires names { length names.old < 2 ^ 32 - 1 }
     requires right { is_right made.now.makes (parts_of made.now.parts) made.now.parts.imm ≡ true }
-    ensures items { OnOk result (items.new.items ≡ items.old.items ++ items_at line names.old (Ok (Some (fit_of made.now)))) }
+    ensures items { OnOk result (items.new ≡ items.old ++ items_at line names.old (Ok (Some (fit_of made.now)))) }
     ensures names { OnOk result (names.new ≡ names_at names.old (Ok (Some (fit_of made.now)))) }
     ensures more { OnOk result (length names.new ≤ length names.old + 1) }
 {
@@ -96,10 +97,10 @@ pub fn put_statement(
     line: u32,
     text: &[u8],
     names: &mut Names,
-    items: &mut Vec<Item>,
+    items: &mut Listing,
 ) -> Result<Option<Fault>, NoMemory>
     requires { length names.old < 2 ^ 32 - 1 }
-    ensures items { OnOk result (items.new.items ≡ items.old.items ++ items_at line names.old (meaning text.now)) }
+    ensures items { OnOk result (items.new ≡ items.old ++ items_at line names.old (meaning text.now)) }
     ensures names { OnOk result (names.new ≡ names_at names.old (meaning text.now)) }
     ensures fault { IfOk result (λ f. f ≡ least (faults_at line (meaning text.now))) }
     ensures more { OnOk result (length names.new ≤ length names.old + 1) }

@@ -1,5 +1,6 @@
 //! What a text has: its instructions and its marks.
 
+use crate::listing::Listing;
 use mca_fixed::{Items, Name};
 use rv_isa::Instr;
 
@@ -17,7 +18,7 @@ pub enum Item {
 /// The program of a text: its items in the order of their places, and the names of its symbols.
 #[derive(Debug, Drop)]
 pub struct AsmText {
-    pub items: Items<Item>,
+    pub items: Listing,
     /// The symbolic immediates, in the order of their first appearance: the number of each is its place.
     pub names: Items<Name>,
 }

@@ -15,6 +15,7 @@ mod instruction;
 mod item;
 mod kind;
 mod laws;
+mod listing;
 mod mark;
 mod names;
 mod number;
@@ -31,6 +32,7 @@ mod table;
 pub use fault::{AsmKind, AsmRefusal};
 pub use item::{AsmText, Item};
 pub use laws::{one_answer, one_cut, spelling_is_read};
+pub use listing::{ItemRef, Listing};
 pub use read::read_asm;
 
 #[cfg(test)]

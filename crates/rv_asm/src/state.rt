@@ -12,13 +12,15 @@ use crate::code::put_statement;
 use crate::fault::{Cause, Fault, earlier};
 use crate::item::{AsmText, Item};
 use crate::kind::Kind;
+use crate::listing::Listing;
 use crate::mark::{Remark, behind, comment_text, remark_of};
 use crate::names::Names;
 use crate::pieces::{feeds, is_closed};
 use crate::split::trimmed;
-use mca_fixed::{Items, Name, NoMemory};
+use mca_fixed::{Name, NoMemory};
 use std::alloc::Global;
 use std::marker::Model;
+use std::mem;
 
 /// What is known of a text up to a place.
 #[derive(Drop)]
@@ -31,7 +33,7 @@ pub struct State {
     /// The marks of the statement's comments.
     marks: Vec<Item>,
     names: Names,
-    items: Vec<Item>,
+    items: Listing,
     /// The first fault so far of each rank.
     bad: Option<Fault>,
     own: Option<Fault>,
@@ -42,7 +44,7 @@ pub struct State {
 impl Model for State {
     ghost Value = { Known };
 
-    ghost view = { λ s. record { line = s.line; begun = s.begun; text = s.body; marks = s.marks.items; names = s.names; items = s.items.items; bad = s.bad; own = s.own; comment = s.comment; unclosed = s.unclosed } };
+    ghost view = { λ s. record { line = s.line; begun = s.begun; text = s.body; marks = s.marks.items; names = s.names; items = s.items; bad = s.bad; own = s.own; comment = s.comment; unclosed = s.unclosed } };
 }
 
 fn is_plain_byte(b: u8) -> bool
@@ -100,7 +102,7 @@ impl State {
             body: Body::empty(alloc),
             marks: Vec::new(alloc),
             names: Names::none(alloc),
-            items: Vec::new(alloc),
+            items: Listing::none(alloc),
             bad: None,
             own: None,
             comment: None,
@@ -185,7 +187,8 @@ impl State {
             &mut self.items,
         )?;
         self.own = earlier(self.own, fault);
-        self.items.append(&mut self.marks)?;
+        self.items
+            .extend(mem::replace(&mut self.marks, Vec::new(alloc)))?;
         self.begun = 0;
         self.body.clear();
         Ok(())
@@ -251,9 +254,6 @@ impl State {
             unclosed: _,
         } = self;
         let names = names.into_items(alloc)?;
-        Ok(AsmText {
-            items: Items::from_vec(items),
-            names,
-        })
+        Ok(AsmText { items, names })
     }
 }

@@ -1,5 +1,9 @@
 //! Texts and what is read of them: the formats' corners, and every form.
-use crate::{AsmText, Item, read_asm};
+ghost use Rattle.std.specs.Prelude.{◌<◌, length};
+
+use crate::{AsmText, Item, ItemRef, Listing, read_asm};
+use mca_fixed::Name;
+use rv_isa::{Imm, Instr, Op, Reg};
 use std::alloc::Global;
 use std::fmt::Write;
 use std::process::Abort;
@@ -23,9 +27,7 @@ fn told(alloc: Global, text: &[u8]) -> Result<String, Fail> {
 }
 
 fn put_program(out: &mut String, program: &AsmText) -> Result<(), Fail> {
-    for item in program.items.as_slice() {
-        put_item(out, item)?;
-    }
+    put_listing(out, &program.items)?;
     for name in program.names.as_slice() {
         write!(out, "'")?;
         put_bytes(out, name.as_bytes())?;
@@ -33,9 +35,11 @@ fn put_program(out: &mut String, program: &AsmText) -> Result<(), Fail> {
     Ok(())
 }
 
-fn put_item(out: &mut String, item: &Item) -> Result<(), Fail> {
-    match item {
-        Item::Code(line, instr) => {
+fn put_item(out: &mut String, items: &Listing, place: usize) -> Result<(), Fail>
+    requires { place < length items.now }
+{
+    match items.get(place) {
+        ItemRef::Code(line, instr) => {
             let op = instr.op;
             let rd = instr.rd.number();
             let rs1 = instr.rs1.number();
@@ -43,12 +47,12 @@ fn put_item(out: &mut String, item: &Item) -> Result<(), Fail> {
             let imm = instr.imm;
             write!(out, "{line} {op:?} {rd} {rs1} {rs2} {imm:?};")?;
         }
-        Item::Begin(line, name) => {
+        ItemRef::Begin(line, name) => {
             write!(out, "{line} begin ")?;
             put_bytes(out, name.as_bytes())?;
             write!(out, ";")?;
         }
-        Item::End(line, name) => {
+        ItemRef::End(line, name) => {
             write!(out, "{line} end ")?;
             put_bytes(out, name.as_bytes())?;
             write!(out, ";")?;
@@ -60,6 +64,13 @@ fn put_item(out: &mut String, item: &Item) -> Result<(), Fail> {
 fn put_bytes(out: &mut String, bytes: &[u8]) -> Result<(), Fail> {
     for b in bytes {
         out.push(*b as char)?;
+    }
+    Ok(())
+}
+
+fn put_listing(out: &mut String, items: &Listing) -> Result<(), Fail> {
+    for k in 0..items.len() {
+        put_item(out, items, k)?;
     }
     Ok(())
 }
@@ -444,6 +455,42 @@ fn the_compiler_s_loop_is_read(rt: HostRuntime) -> Result<(), Fail> {
     assert_eq!(rt;
         told(rt.alloc(), text)?.as_str(),
         "7 Addi 2 2 0 Value(-16);8 Sd 0 2 1 Value(8);9 begin loop;11 Lw 13 10 0 Value(0);12 Lui 15 0 0 Symbol(0);13 Addi 15 15 0 Symbol(1);14 Mul 13 13 15 None;15 Auipc 1 0 0 Symbol(2);15 Jalr 1 1 0 Symbol(2);16 Addi 10 10 0 Value(4);17 Bne 0 10 14 Symbol(3);18 end loop;19 Ld 1 2 0 Value(8);20 Addi 2 2 0 Value(16);21 Jalr 0 1 0 Value(0);'%hi(base)'%lo(base)'step'.L3"
+    );
+    Ok(())
+}
+
+fn lui(line: u32, imm: Imm) -> Item {
+    Item::Code(
+        line,
+        Instr {
+            op: Op::Lui,
+            rd: Reg::ra(),
+            rs1: Reg::zero(),
+            rs2: Reg::t1(),
+            imm,
+        },
+    )
+}
+
+#[test]
+fn a_listing_gives_back_what_it_was_given(rt: HostRuntime) -> Result<(), Fail> {
+    let alloc = rt.alloc();
+    let mut items = Listing::none(alloc);
+    assert!(rt; items.is_empty());
+    items.push(lui(1, Imm::Value(-2_147_483_648)))?;
+    items.push(lui(2, Imm::Value(2_147_483_648)))?;
+    items.push(Item::Begin(3, Name::from_bytes(alloc, b"a")?))?;
+    items.push(lui(4, Imm::Symbol(4_294_967_295)))?;
+    let mut more = Vec::new(alloc);
+    more.push(Item::End(5, Name::from_bytes(alloc, b"b")?))?;
+    more.push(lui(6, Imm::None))?;
+    items.extend(more)?;
+    assert_eq!(rt; items.len(), 6);
+    let mut out = String::new(alloc);
+    put_listing(&mut out, &items)?;
+    assert_eq!(rt;
+        out.as_str(),
+        "1 Lui 1 0 6 Value(-2147483648);2 Lui 1 0 6 Value(2147483648);3 begin a;4 Lui 1 0 6 Symbol(4294967295);5 end b;6 Lui 1 0 6 None;"
     );
     Ok(())
 }
