@@ -26,7 +26,7 @@ fn program(alloc: Global, text: &[u8]) -> Result<AsmText, Status>
     ensures parsed { IsParsed text.now result }
 {
     match read_asm(alloc, text) {
-        Ok(asm) => match items_fault(asm.items.as_slice()) {
+        Ok(asm) => match items_fault(&asm.items) {
             Some(refusal) => Err(Status::Assembly(refusal)),
             None => Ok(asm),
         },

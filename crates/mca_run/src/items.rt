@@ -3,7 +3,7 @@ ghost use Rattle.std.specs.Prelude.{◌≡◌, ◌≤◌, ◌<◌, length, None,
 ghost use Rattle.mca_run.specs.Items.{items_fault, refused_from, code_of};
 
 use mca_fixed::NoMemory;
-use rv_asm::{AsmKind, AsmRefusal, Item};
+use rv_asm::{AsmKind, AsmRefusal, ItemRef, Listing};
 use rv_isa::Instr;
 use std::alloc::Global;
 
@@ -11,14 +11,15 @@ use std::alloc::Global;
 const MOST: usize = 4096;
 
 /// The first item that is refused: an instruction past the most, or a mark.
-fn refused(items: &[Item]) -> Option<AsmRefusal>
+#[tactic(auto, using(crate::proofs::Walk::front_is))]
+fn refused(items: &Listing) -> Option<AsmRefusal>
     ensures { result ≡ refused_from 4096 items.now }
 {
-    for (k, item) in items.iter().enumerate() {
-        let (line, kind) = match item {
-            Item::Code(_, _) if k < MOST => continue,
-            Item::Code(line, _) => (*line, AsmKind::RegionTooLong),
-            Item::Begin(line, _) | Item::End(line, _) => (*line, AsmKind::NotYet),
+    for k in 0..items.len() {
+        let (line, kind) = match items.get(k) {
+            ItemRef::Code(_, _) if k < MOST => continue,
+            ItemRef::Code(line, _) => (line, AsmKind::RegionTooLong),
+            ItemRef::Begin(line, _) | ItemRef::End(line, _) => (line, AsmKind::NotYet),
         };
         return Some(AsmRefusal { line, kind });
     }
@@ -26,7 +27,7 @@ fn refused(items: &[Item]) -> Option<AsmRefusal>
 }
 
 /// The first fault of the items.
-pub(crate) fn items_fault(items: &[Item]) -> Option<AsmRefusal>
+pub(crate) fn items_fault(items: &Listing) -> Option<AsmRefusal>
     ensures fault { result ≡ items_fault items.now }
     ensures some { result ≡ None → 0 < length items.now }
     ensures few { result ≡ None → length items.now ≤ 4096 }
@@ -42,13 +43,15 @@ pub(crate) fn items_fault(items: &[Item]) -> Option<AsmRefusal>
 }
 
 /// The instructions among the items.
-pub(crate) fn code(alloc: Global, items: &[Item]) -> Result<Vec<Instr>, NoMemory>
+#[tactic(auto, using(crate::proofs::Walk::front_is))]
+pub(crate) fn code(alloc: Global, items: &Listing) -> Result<Vec<Instr>, NoMemory>
     ensures { IfOk result (λ code. code.items ≡ code_of items.now) }
 {
     let mut code = Vec::with_capacity(alloc, items.len())?;
-    for item in items {
-        if let Item::Code(_, instr) = item {
-            code.push(*instr)?;
+    for k in 0..items.len() {
+        match items.get(k) {
+            ItemRef::Code(_, instr) => code.push(instr)?,
+            ItemRef::Begin(_, _) | ItemRef::End(_, _) => continue,
         }
     }
     Ok(code)

@@ -39,7 +39,7 @@ fn work<F: Shelf>(alloc: Global, words: &[String], shelf: &mut F) -> Result<Stri
         Ok(asm) => asm,
         Err(status) => return Err(status),
     };
-    let Ok(code) = code(alloc, asm.items.as_slice()) else {
+    let Ok(code) = code(alloc, &asm.items) else {
         return Err(Status::Memory);
     };
     report_as_asked(alloc, &options, shelf, &code)
