@@ -1,0 +1,21 @@
+#!/bin/sh
+# The gate runs programs on copies of the examples and of the tables of real cores, since such a run sees only the
+# folder data/ of its own crate. Says which copies differ; with the word 'make' it makes them again.
+cd "$(dirname "$0")/.." || exit 1
+make=${1-}
+bad=0
+
+# compare FILE CRATE: the crate has a copy of the file, by its name below examples/ or by its whole name.
+compare() {
+    copy=crates/$2/data/${1#examples/}
+    [ "$make" = make ] && cp "$1" "$copy"
+    cmp -s "$1" "$copy" || { echo "$1: $copy differs"; bad=1; }
+}
+
+for file in examples/each.s examples/kernels/*.s machines/*.td; do
+    compare "$file" mca_examples
+done
+for file in examples/add.s examples/b.td; do
+    compare "$file" mca_cli
+done
+exit $bad
