@@ -1,5 +1,6 @@
 #!/bin/sh
-# Times the built program on inputs made here. Run it after ./mca has built the program.
+# Times the built program on inputs made here, and shows the most memory that it held. Run it after ./mca has built
+# the program. The memory is read by GNU's time (Debian's package time); where that is missing it is left out.
 top=$(CDPATH='' cd "$(dirname "$0")/.." && pwd -P) || exit 1
 program=$top/crates/mca_cli/out/mca_cli
 [ -x "$program" ] || { echo "build first: $top/mca -table=$top/examples/b.td $top/examples/add.s" >&2; exit 1; }
@@ -12,7 +13,25 @@ head -c 8388609 /dev/zero | tr '\0' '\n' > "$work/long.s"
 awk 'BEGIN { for (i = 0; i < 1048575; i++) print "# byte"; print "nop" }' > "$work/short_lines.s"
 awk 'BEGIN { for (j = 0; j < 4090; j++) line = line ";"; for (i = 0; i < 2048; i++) print line; print "nop" }' > "$work/long_lines.s"
 
-# time_of NAME FILE [TABLE]: the least of five runs, with its status.
+# An assembly of 8 MiB whose lines are all alike.
+lines_of() {
+    yes "$1" | head -c 8388607
+    echo
+}
+lines_of nop > "$work/nops.s"
+lines_of 'call f' > "$work/calls.s"
+lines_of 'li a0, 0x1234567812345679' > "$work/constants.s"
+# One whose symbols are all different: 9 bytes a line.
+awk 'BEGIN { for (i = 0; i < 932000; i++) printf "j _%05x\n", i }' > "$work/symbols.s"
+
+# memory_of FILE TABLE: the most memory that a run held, in MiB.
+memory_of() {
+    [ -x /usr/bin/time ] || { echo -; return; }
+    /usr/bin/time -f %M -o "$work/memory" "$program" "-table=$2" "$1" >/dev/null 2>&1
+    tail -n 1 "$work/memory" | awk '{ printf "%.1f MiB", $1 / 1024 }'
+}
+
+# time_of NAME FILE [TABLE]: the least of five runs, with its status and its memory.
 time_of() {
     best=
     for run in 1 2 3 4 5; do
@@ -23,7 +42,8 @@ time_of() {
         took=$(( (end - start) / 10000 ))
         if [ -z "$best" ] || [ "$took" -lt "$best" ]; then best=$took; fi
     done
-    printf '%-40s status %d  %d.%02d ms\n' "$1" "$status" $((best / 100)) $((best % 100))
+    memory=$(memory_of "$2" "${3:-$top/examples/b.td}")
+    printf '%-44s status %d  %4d.%02d ms  %s\n' "$1" "$status" $((best / 100)) $((best % 100)) "$memory"
 }
 
 # 8,192 records, all valid: a model, nine resources, and writes of eight uses each.
@@ -40,5 +60,9 @@ time_of '4,096 lines of add (409,600 rows)' "$work/rows.s"
 time_of 'a file of 8,388,609 bytes, refused' "$work/long.s"
 time_of 'a million short lines (7 MiB)' "$work/short_lines.s"
 time_of 'lines of 4,090 bytes (8 MiB)' "$work/long_lines.s"
+time_of 'lines of nop (8 MiB)' "$work/nops.s"
+time_of 'lines of call, two instructions each (8 MiB)' "$work/calls.s"
+time_of 'lines of li, eight instructions each (8 MiB)' "$work/constants.s"
+time_of '932,000 different symbols (8 MiB)' "$work/symbols.s"
 time_of 'a table of 8,192 records, most with 8 uses' "$work/one.s" "$work/records.td"
 time_of 'a table of 8 MiB of blank lines' "$work/one.s" "$work/blank.td"
