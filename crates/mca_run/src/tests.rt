@@ -206,7 +206,7 @@ const WORDS: [(&str, u8, &str, &str); 20] = [
 ];
 
 /// A table, and the same.
-const TABLES: [(&str, u8, &str, &str); 9] = [
+const TABLES: [(&str, u8, &str, &str); 7] = [
     (
         "def P : ProcResource<1>;\n\ndef : WriteRes<WriteIALU, [P,\n",
         3,
@@ -231,18 +231,6 @@ const TABLES: [(&str, u8, &str, &str); 9] = [
         4,
         "",
         "mca: machine record 3: UseCannotBeMet\n",
-    ),
-    (
-        "def M : SchedMachineModel {\n  let IssueWidth = 2;\n  let MicroOpBufferSize = 32;\n}\nlet SchedModel = M in {\ndef PA : ProcResource<1>;\ndef PB : ProcResource<1>;\ndef PAB : ProcResGroup<[PA, PB]>;\ndef PD : ProcResource<1>;\ndef PM : ProcResource<1>;\ndef : WriteRes<WriteIALU, [PA, PA]>;\ndef : WriteRes<WriteJmp, [PB]>;\n}\n",
-        4,
-        "",
-        "mca: machine record 7: UseCannotBeMet\n",
-    ),
-    (
-        "def M : SchedMachineModel {\n  let IssueWidth = 2;\n  let MicroOpBufferSize = 32;\n}\nlet SchedModel = M in {\ndef PA : ProcResource<1>;\ndef PB : ProcResource<1>;\ndef PAB : ProcResGroup<[PA, PB]>;\ndef : WriteRes<WriteShiftImm, [PAB]>;\ndef : WriteRes<WriteIMul, [PA]> { let Latency = 3; }\n}\n",
-        4,
-        "",
-        "mca: machine opcode add: NoWriteRes\n",
     ),
     (
         "def M : SchedMachineModel { let IssueWidth = 1; let MicroOpBufferSize = 8; }\ndef PA : ProcResource<1>;\ndef : WriteRes<WriteIALU, [PA]>;\n",
@@ -297,6 +285,115 @@ fn each_table_has_its_status_and_its_bytes(rt: HostRuntime) -> Result<(), Fail> 
         BOTH,
         ("frobnicate\n", "def"),
         (2, "", line),
+        &rt,
+    )
+}
+
+/// A machine of two micro-ops a cycle, with a group of two units.
+const TWO_WIDE: &str = "def M : SchedMachineModel {
+  let IssueWidth = 2;
+  let MicroOpBufferSize = 32;
+}
+let SchedModel = M in {
+def PA : ProcResource<1>;
+def PB : ProcResource<1>;
+def PAB : ProcResGroup<[PA, PB]>;
+def PD : ProcResource<1>;
+def PM : ProcResource<1>;
+def : WriteRes<WriteIALU, [PAB]>;
+def : WriteRes<WriteIALU32, [PAB]>;
+def : WriteRes<WriteShiftImm, [PAB]>;
+def : WriteRes<WriteJmp, [PB]>;
+def : WriteRes<WriteJal, [PB]>;
+def : WriteRes<WriteJalr, [PB]>;
+def : WriteRes<WriteIMul, [PA]> { let Latency = 3; }
+def : WriteRes<WriteIDiv, [PD]> { let Latency = 20; let ReleaseAtCycles = [20]; }
+let Latency = 4 in {
+def : WriteRes<WriteLDW, [PM]>;
+def : WriteRes<WriteLDD, [PM]>;
+}
+def : WriteRes<WriteSTW, [PM]> { let Latency = 3; }
+def : WriteRes<WriteSTD, [PM]>;
+}
+";
+
+/// That table with a text in place of one line, counted from 1.
+fn two_wide(alloc: Global, number: usize, text: &str) -> Result<String, Fail> {
+    let mut table = String::new(alloc);
+    for (k, line) in TWO_WIDE.split('\n').enumerate() {
+        table.push_str(if k + 1 == number { text } else { line })?;
+        table.push_str("\n")?;
+    }
+    Ok(table)
+}
+
+/// An assembly, a line of that table and the text in its place, and the status's number and the line of error.
+const TWO_WIDE_ANSWERS: [(&str, usize, &str, u8, &str); 6] = [
+    ("add a0, a1, a2\n", 0, "", 4, "mca: machine: NotYet\n"),
+    (
+        "sll a0, a1, a2\n",
+        0,
+        "",
+        4,
+        "mca: machine opcode sll: NoWriteRes\n",
+    ),
+    (
+        "add a0, a1, a2\n",
+        11,
+        "def : WriteRes<WriteIALU, [PA, PA]>;",
+        4,
+        "mca: machine record 7: UseCannotBeMet\n",
+    ),
+    (
+        "sll a0, a1, a2\n",
+        11,
+        "def : WriteRes<WriteIALU, [PA, PA]>;",
+        4,
+        "mca: machine record 7: UseCannotBeMet\n",
+    ),
+    (
+        "add a0, a1, a2\n",
+        3,
+        "  let MicroOpBufferSize = 0;",
+        4,
+        "mca: machine record 1: InOrderModel\n",
+    ),
+    (
+        "add a0, a1, a2\n",
+        24,
+        "def : WriteRes<WriteSTD, [PN]>;",
+        4,
+        "mca: machine record 18: UnknownName\n",
+    ),
+];
+
+#[test]
+fn a_two_wide_table_has_its_answers(rt: HostRuntime) -> Result<(), Fail> {
+    let alloc = rt.alloc();
+    let words = "-table=b.td -iterations=1 a.s";
+    for (asm, number, text, status, line) in &TWO_WIDE_ANSWERS {
+        let table = two_wide(alloc, *number, text)?;
+        compare(
+            alloc,
+            words,
+            (asm, table.as_str()),
+            (*status, "", line),
+            &rt,
+        )?;
+    }
+    // Cut inside a list.
+    let mut cut = String::new(alloc);
+    for line in TWO_WIDE.split('\n').take(7) {
+        cut.push_str(line)?;
+        cut.push_str("\n")?;
+    }
+    cut.push_str("def PAB : ProcResGroup<[PA,")?;
+    let line = "mca: table line 8: Syntax\n";
+    compare(
+        alloc,
+        words,
+        ("add a0, a1, a2\n", cut.as_str()),
+        (3, "", line),
         &rt,
     )
 }
