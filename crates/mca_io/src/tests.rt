@@ -3,7 +3,8 @@
 ghost use Rattle.std.specs.Prelude.{◌≤◌};
 
 use crate::{
-    FileShelf, MemShelf, MemSink, ReadFault, Shelf, Sink, StdSink, read_named, write_whole,
+    Failed, FileShelf, MemShelf, MemSink, NoMemory, ReadFault, Shelf, Sink, StdSink, read_named,
+    write_whole,
 };
 use std::process::{self, Abort};
 use std::test::Fail;
@@ -139,6 +140,23 @@ fn a_writer_of_std_gets_the_bytes(rt: HostRuntime) -> Result<(), Fail> {
     assert!(rt;
         write_whole(&mut full, b"12345").is_err(),
         "a write of nothing counts as a fault"
+    );
+    Ok(())
+}
+
+#[test]
+fn faults_say_what_was_wrong(rt: HostRuntime) -> Result<(), Fail> {
+    for (fault, want) in [
+        (ReadFault::Failed, "the shelf failed"),
+        (ReadFault::TooLong, "the content is too long"),
+        (ReadFault::Memory, "out of memory"),
+    ] {
+        assert_eq!(rt; format!(in rt.alloc(); "{fault}")?.as_str(), want);
+    }
+    let (failed, memory) = (Failed, NoMemory);
+    assert_eq!(rt;
+        format!(in rt.alloc(); "{failed}; {memory}")?.as_str(),
+        "a device failed; out of memory"
     );
     Ok(())
 }
