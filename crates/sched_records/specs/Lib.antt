@@ -7,6 +7,7 @@ pub mod Fields
 pub mod Classes
 pub mod Grammar
 pub mod Gives
+pub mod KindNames
 pub mod Values
 pub mod Elements
 pub mod Forms

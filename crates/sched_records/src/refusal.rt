@@ -1,6 +1,7 @@
 //! Why a table has no records, and at which line.
 ghost use Rattle.std.specs.Prelude.{◌≡◌};
 ghost use Rattle.sched_records.specs.declared.refusal.TableKind.TheVariants.{Memory};
+ghost use Rattle.sched_records.specs.KindNames.{kind_name};
 
 use mca_fixed::NoMemory;
 use std::alloc::{AllocError, AllocFailed};
@@ -30,6 +31,25 @@ pub enum TableKind {
     Memory,
 }
 
+impl TableKind {
+    /// The kind's name, as an error line prints it.
+    pub fn name(self) -> &'static str
+        ensures { result.now ≡ kind_name self }
+    {
+        match self {
+            TableKind::Syntax => "Syntax",
+            TableKind::NotFlat => "NotFlat",
+            TableKind::UnknownRecord => "UnknownRecord",
+            TableKind::UnknownField => "UnknownField",
+            TableKind::BadValue => "BadValue",
+            TableKind::RepeatedField => "RepeatedField",
+            TableKind::RepeatedName => "RepeatedName",
+            TableKind::TooMany => "TooMany",
+            TableKind::Memory => "Memory",
+        }
+    }
+}
+
 /// The first fault of a table and the line of its token, counted from 1; or want of memory, with line 0.
 #[derive(Clone, Copy, Debug, PartialEq, Eq)]
 pub struct TableRefusal {
@@ -44,11 +64,15 @@ impl TableRefusal {
     };
 }
 
+/// `line`, the line's number, a colon and the kind's name.
 impl fmt::Display for TableRefusal {
+    ghost use Rattle.std.specs.Prelude.{Some};
+    ghost use Rattle.sched_records.specs.KindNames.{refusal_text};
+
+    ghost output = { λ refusal. Some (refusal_text refusal) };
+
     fn fmt<W: fmt::Write>(&self, f: &mut fmt::Formatter<W>) -> fmt::Result {
-        let line = self.line;
-        let kind = self.kind;
-        write!(f, "line {line}: {kind:?}")
+        write!(f, "line {}: {}", self.line, self.kind.name())
     }
 }
 
