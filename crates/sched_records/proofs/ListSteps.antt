@@ -10,7 +10,7 @@ use Rattle.sched_records.specs.declared.refusal.TableRefusal.{TableRefusal}
 use Rattle.sched_records.specs.declared.value.Listed.{Listed}
 use Rattle.sched_records.specs.declared.value.Element.{Element}
 use Rattle.sched_records.specs.declared.value.ListedName.{ListedName}
-use Rattle.sched_records.specs.Gives.{UnlessMemory}
+use Rattle.sched_records.specs.Gives.{ByMemory}
 use Rattle.sched_records.specs.Tokens.{Lexeme, first_of}
 use Rattle.sched_records.specs.Grammar.{◌>>=◌, Parsed, is_name, is_sign, refusal}
 use Rattle.sched_records.specs.Values.{atom, wide_of, is_want, after_wide, with_front, elements, with_names, names}
@@ -64,6 +64,10 @@ want_stays (Some l) f = by_want (is_want f.kind) refl
     by_want true e = rw e e
     by_want false e = rw e refl
 
+want_same : (wide : Option ℕ) (f : TableRefusal) → is_want f.kind ≡ true → after_wide wide f ≡ f
+want_same None f e = refl
+want_same (Some l) f e = rw e refl
+
 after_two : (l m : ℕ) (f : TableRefusal) (w : Bool) → is_want f.kind ≡ w → after_wide (Some l) f ≡ after_wide (Some l) (after_wide (Some m) f)
 after_two l m f true e = rw e (rw e refl)
 after_two l m f false e = rw e refl
@@ -87,19 +91,26 @@ front_none (Ok x) = refl
 
 -- ---- the loop over elements
 
-unless_out : {P : Type 0} (k : TableKind) → UnlessMemory k P → is_want k ≡ false → P
-unless_out faults.Memory h e = cc
-unless_out _ h e = h
+fault_out : {P : Type 0} (Q : Type 0) (k : TableKind) → ByMemory k Q P → is_want k ≡ false → P
+fault_out Q faults.Memory h e = cc
+fault_out Q _ h e = h
 
-unless_in : {P : Type 0} (k : TableKind) → (is_want k ≡ false → P) → UnlessMemory k P
-unless_in faults.Memory h = tt
-unless_in _ h = h refl
+want_out : {Q : Type 0} (P : Type 0) (k : TableKind) → ByMemory k Q P → is_want k ≡ true → Q
+want_out P faults.Memory h e = h
+want_out P _ h e = cc
+
+by_want : {Q P : Type 0} (k : TableKind) → (is_want k ≡ true → Q) → (is_want k ≡ false → P) → ByMemory k Q P
+by_want faults.Memory g h = g refl
+by_want _ g h = h refl
 
 pub list_stops : (e r : TableRefusal) (wide : Option ℕ) (front : List Atom) (ts : List Lexeme) (all : Parsed Listed) →
-    r ≡ after_wide wide e → UnlessMemory e.kind (element_at ts ≡ Err e) → with_front front wide (elements ts) ≡ all → UnlessMemory r.kind (all ≡ Err r)
-list_stops e r wide front ts all r-is read all-is = unless_in r.kind (λ no_want.
+    r ≡ after_wide wide e → ByMemory e.kind (e.line ≡ 0) (element_at ts ≡ Err e) → with_front front wide (elements ts) ≡ all → ByMemory r.kind (r.line ≡ 0) (all ≡ Err r)
+list_stops e r wide front ts all r-is read all-is =
     let kind_is : is_want r.kind ≡ is_want e.kind = rw r-is (want_stays wide e) in
-    let first : element_at ts ≡ Err e = unless_out e.kind read (sym kind_is ∙ no_want) in
+    by_want r.kind
+    (λ want. let no_line : e.line ≡ 0 = want_out _ e.kind read (sym kind_is ∙ want) in rw (r-is, want_same wide e (sym kind_is ∙ want)) no_line)
+    (λ no_want.
+    let first : element_at ts ≡ Err e = fault_out _ e.kind read (sym kind_is ∙ no_want) in
     sym all-is ∙ rw (elements_step ts, first, r-is) refl)
 
 pub list_ends : (e : Element) (wide : Option ℕ) (front : List Atom) (ts rest : List Lexeme) (all : Parsed Listed) →
@@ -152,9 +163,9 @@ names_none (Err f) = refl
 names_none (Ok x) = refl
 
 pub names_stop : (e : TableRefusal) (front : List (List ℕ)) (ts : List Lexeme) (all : Parsed (List (List ℕ))) →
-    UnlessMemory e.kind (listed_name_at ts ≡ Err e) → with_names front (names ts) ≡ all → UnlessMemory e.kind (all ≡ Err e)
-names_stop e front ts all read all-is = unless_in e.kind (λ no_want.
-    let first : listed_name_at ts ≡ Err e = unless_out e.kind read no_want in
+    ByMemory e.kind (e.line ≡ 0) (listed_name_at ts ≡ Err e) → with_names front (names ts) ≡ all → ByMemory e.kind (e.line ≡ 0) (all ≡ Err e)
+names_stop e front ts all read all-is = by_want e.kind (want_out _ e.kind read) (λ no_want.
+    let first : listed_name_at ts ≡ Err e = fault_out _ e.kind read no_want in
     sym all-is ∙ rw (names_step ts, first) refl)
 
 pub names_end : (e : ListedName) (front : List (List ℕ)) (ts rest : List Lexeme) (all : Parsed (List (List ℕ))) →

@@ -8,7 +8,7 @@ use Rattle.sched_records.specs.declared.records.Record.{Record}
 use Rattle.sched_records.specs.declared.refusal.TableKind.{TableKind}
 use Rattle.sched_records.specs.declared.refusal.TableKind.TheVariants as faults
 use Rattle.sched_records.specs.declared.refusal.TableRefusal.{TableRefusal}
-use Rattle.sched_records.specs.Gives.{UnlessMemory}
+use Rattle.sched_records.specs.Gives.{UnlessMemory, ByMemory}
 use Rattle.sched_records.specs.Tokens.{Lexeme}
 use Rattle.sched_records.specs.Known.{known_after, doing_after}
 use Rattle.sched_records.specs.Table.{ComesTo, ends, fails, goes_on}
@@ -26,6 +26,10 @@ one {b = b} {k = k} (goes_on step rest end read more) (goes_on step' rest' end' 
     let same : ◌≡◌ {A = Step × List Lexeme} (step', rest') (step, rest) = cc in
     one more (subst (λ (p : Step × List Lexeme). ComesTo b (known_after k p.0) (doing_after p.0) p.1) same more')
 
-pub unless_map : {P Q : Type 0} (k : TableKind) → (P → Q) → UnlessMemory k P → UnlessMemory k Q
-unless_map faults.Memory f h = tt
-unless_map _ f h = f h
+pub unless_map : {P Q : Type 0} (R : Type 0) (k : TableKind) → (P → Q) → ByMemory k R P → UnlessMemory k Q
+unless_map R faults.Memory f h = tt
+unless_map R _ f h = f h
+
+pub at_memory : {R : Type 0} (P : Type 0) (k : TableKind) → ByMemory k R P → k ≡ faults.Memory → R
+at_memory P faults.Memory h e = h
+at_memory P _ h e = cc

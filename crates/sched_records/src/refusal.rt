@@ -79,7 +79,7 @@ impl fmt::Display for TableRefusal {
 impl Error for TableRefusal {}
 
 impl From<NoMemory> for TableRefusal {
-    ghost from_gives = { λ _ e. e.kind ≡ Memory };
+    ghost from_gives = { λ _ e. e ≡ record { line = 0; kind = Memory } };
 
     fn from(_: NoMemory) -> TableRefusal {
         TableRefusal::NO_MEMORY
@@ -87,7 +87,7 @@ impl From<NoMemory> for TableRefusal {
 }
 
 impl From<AllocError> for TableRefusal {
-    ghost from_gives = { λ _ e. e.kind ≡ Memory };
+    ghost from_gives = { λ _ e. e ≡ record { line = 0; kind = Memory } };
 
     fn from(_: AllocError) -> TableRefusal {
         TableRefusal::NO_MEMORY
@@ -95,7 +95,7 @@ impl From<AllocError> for TableRefusal {
 }
 
 impl<T: Drop> From<AllocFailed<T>> for TableRefusal {
-    ghost from_gives = { λ _ e. e.kind ≡ Memory };
+    ghost from_gives = { λ _ e. e ≡ record { line = 0; kind = Memory } };
 
     fn from(_: AllocFailed<T>) -> TableRefusal {
         TableRefusal::NO_MEMORY

@@ -7,6 +7,7 @@ ghost use Rattle.sched_records.specs.Order.{in_byte_order};
 ghost use Rattle.sched_records.specs.declared.class.Class.{Class as ClassOf};
 ghost use Rattle.sched_records.specs.declared.members.Given.{Given as GivenOf};
 ghost use Rattle.sched_records.specs.declared.records.Record.{Record as RecordOf};
+ghost use Rattle.sched_records.specs.declared.refusal.TableKind.TheVariants.{Memory};
 ghost use Rattle.sched_records.specs.declared.refusal.TableRefusal.{TableRefusal as RefusalOf};
 
 use crate::known::{Doing, Known, may_end};
@@ -24,6 +25,7 @@ pub fn read_table(alloc: Global, text: &[u8]) -> Result<Records, TableRefusal>
     ensures records { IfOk result (λ records. HasRecords text.now records) }
     ensures few { IfOk result (λ records. length records ≤ 8192) }
     ensures fault { IfErr result (λ f. UnlessMemory f.kind (HasFault text.now f)) }
+    ensures no_line { IfErr result (λ f. f.kind ≡ Memory → f.line ≡ 0) }
 {
     let mut tokens = Tokens::at(text, 1);
     let mut known = Known::new(alloc);

@@ -1,7 +1,7 @@
 use Rattle.std.proofs.Common.{Ok, Err, sym, ◌∙◌, refl, arith}
 use Rattle.std.proofs.lemmas.Result.{err_from_is_err_and}
 use Rattle.sched_records.specs.Table.{ends, fails, goes_on}
-use Rattle.sched_records.proofs.OneAnswer.{unless_map}
+use Rattle.sched_records.proofs.OneAnswer.{unless_map, at_memory}
 use Rattle.sched_records.proofs.FewRecords.{few}
 use Rattle.sched_records.proofs.table.read_table.Goals as goal
 
@@ -9,7 +9,12 @@ pub returns-in_err-step-clause-fault : goal.returns-in_err-step-clause-fault
 returns-in_err-step-clause-fault c =
     let p = err_from_is_err_and c.from_residual.result c.from_residual.ensures.1 in
     let e = c.in_err-step.field-0.0 in
-    rw (p.1, p.2) (unless_map e.kind (λ read. c.phrases.invariant (Err e) (fails e (sym c.may_end.ensures ∙ c.phrases-test.true) read refl)) c.in_err-step.ensures.read)
+    rw (p.1, p.2) (unless_map _ e.kind (λ read. c.phrases.invariant (Err e) (fails e (sym c.may_end.ensures ∙ c.phrases-test.true) read refl)) c.in_err-step.ensures.read)
+
+pub returns-in_err-step-clause-no_line : goal.returns-in_err-step-clause-no_line
+returns-in_err-step-clause-no_line c =
+    let p = err_from_is_err_and c.from_residual.result c.from_residual.ensures.1 in
+    rw (p.1, p.2) (at_memory _ c.in_err-step.field-0.0.kind c.in_err-step.ensures.read)
 
 pub phrases-preserved : goal.phrases-preserved
 phrases-preserved c = λ answer h.
