@@ -4,8 +4,7 @@ use Rattle.mca_words.specs.Kinds.{kind_name as word_kind_name}
 use Rattle.rv_asm.specs.KindNames.{kind_name}
 use Rattle.rv_isa.specs.Opcodes.{facts_of}
 use Rattle.sched_checks.specs.Names.{ill_name}
-use Rattle.sched_records.specs.declared.refusal.TableKind.{TableKind}
-use Rattle.sched_records.specs.declared.refusal.TableKind.TheVariants as kind
+use Rattle.sched_records.specs.KindNames.{kind_name as table_kind_name}
 use Rattle.mca_run.specs.declared.status.Status.{Status}
 use Rattle.mca_run.specs.declared.status.Status.TheVariants.{Done, Words, Assembly, Table, Machine, Limit, ReadFault, WriteFault, Memory}
 use Rattle.mca_run.specs.declared.status.MachineRefusal.{MachineRefusal}
@@ -25,18 +24,6 @@ number_of (Limit kind n) = 5
 number_of ReadFault = 6
 number_of WriteFault = 7
 number_of Memory = 8
-
--- the names of the kinds of fault of a table
-abbrev pub table_kind_name : TableKind → List ℕ
-table_kind_name kind.Syntax = codes "Syntax"
-table_kind_name kind.NotFlat = codes "NotFlat"
-table_kind_name kind.UnknownRecord = codes "UnknownRecord"
-table_kind_name kind.UnknownField = codes "UnknownField"
-table_kind_name kind.BadValue = codes "BadValue"
-table_kind_name kind.RepeatedField = codes "RepeatedField"
-table_kind_name kind.RepeatedName = codes "RepeatedName"
-table_kind_name kind.TooMany = codes "TooMany"
-table_kind_name kind.Memory = codes "Memory"
 
 abbrev pub limit_kind_name : LimitKind → List ℕ
 limit_kind_name AssemblyBytes = codes "AssemblyBytes"

@@ -1,14 +1,14 @@
 //! How a call of the tool ends.
 ghost use Rattle.std.specs.Prelude.{◌≡◌, ◌++◌, IfOk, string_bytes, codes, decimal};
 ghost use Rattle.mca_words.specs.Kinds.{kind_name as word_kind_name};
-ghost use Rattle.mca_run.specs.Lines.{line_of, number_of, table_kind_name, op_kind_name, machine_line, limit_kind_name};
+ghost use Rattle.mca_run.specs.Lines.{line_of, number_of, op_kind_name, machine_line, limit_kind_name};
 
 use mca_fixed::NoMemory;
 use mca_words::{WordFault, WordKind};
 use rv_asm::AsmRefusal;
 use rv_isa::{Op, mnemonic};
 use sched_checks::IllKind;
-use sched_records::{TableKind, TableRefusal};
+use sched_records::TableRefusal;
 use std::alloc::Global;
 
 /// The limits that an input can pass.
@@ -131,23 +131,6 @@ fn word_kind_name(kind: WordKind) -> &'static str
     }
 }
 
-/// The name of a kind of fault of a table.
-fn table_kind_name(kind: TableKind) -> &'static str
-    ensures { result.now ≡ table_kind_name kind }
-{
-    match kind {
-        TableKind::Syntax => "Syntax",
-        TableKind::NotFlat => "NotFlat",
-        TableKind::UnknownRecord => "UnknownRecord",
-        TableKind::UnknownField => "UnknownField",
-        TableKind::BadValue => "BadValue",
-        TableKind::RepeatedField => "RepeatedField",
-        TableKind::RepeatedName => "RepeatedName",
-        TableKind::TooMany => "TooMany",
-        TableKind::Memory => "Memory",
-    }
-}
-
 /// A line of a number and a kind.
 fn kind_line(alloc: Global, head: &str, number: u64, kind: &str) -> Result<String, NoMemory>
     ensures { IfOk result (λ text. string_bytes text ≡ head.now ++ decimal number ++ codes ": " ++ kind.now ++ codes "\n") }
@@ -219,7 +202,7 @@ pub(crate) fn line(alloc: Global, status: Status) -> Result<String, NoMemory>
             alloc,
             "mca: table line ",
             u64::from(refusal.line),
-            table_kind_name(refusal.kind),
+            refusal.kind.name(),
         ),
         Status::Machine(refusal) => machine_line(alloc, refusal),
         Status::Limit(kind, number) => limit_line(alloc, kind.name(), number),
