@@ -1,5 +1,6 @@
 -- the items of a text as they are kept: most of them short, the others aside
-use Rattle.std.specs.Prelude.{◌<◌, List, [], length, get_or}
+use Rattle.std.specs.Prelude.{◌<◌, List, [], length, get_or, FitsSigned}
+use Rattle.std.specs.Int.{w32}
 use Rattle.rv_isa.specs.declared.instr.Imm.{Imm}
 use Rattle.rv_isa.specs.declared.instr.Imm.TheVariants as imm
 use Rattle.rv_asm.specs.declared.item.Item.{Item}
@@ -33,3 +34,9 @@ IsWithin aside (kept.Plain s) = Unit {0}
 IsWithin aside (kept.Number s n) = Unit {0}
 IsWithin aside (kept.Symbol s n) = Unit {0}
 IsWithin aside (kept.Aside place) = place < length aside
+
+-- an immediate that a short item has room for
+abbrev pub HasRoom : Imm → Type 0
+HasRoom imm.None = Unit {0}
+HasRoom (imm.Value n) = FitsSigned w32 n
+HasRoom (imm.Symbol k) = Unit {0}

@@ -1,9 +1,9 @@
 //! The items of a text, kept short. A text may have an item for every three or four bytes, and an `Item`,
 //! which has room for any number and any name, takes twice as much as the instructions that texts are
 //! made of need.
-ghost use Rattle.std.specs.Prelude.{◌≡◌, ◌<◌, ◌++◌, ◌∷◌, [], length, nat_eq, slice_get, Some, OnOk, OnErr, IfSome, List};
+ghost use Rattle.std.specs.Prelude.{◌≡◌, ◌<◌, ◌++◌, ◌∷◌, [], length, nat_eq, slice_get, Some, OnOk, OnErr, IfSome, IsSome, List};
 ghost use Rattle.rv_asm.specs.declared.item.Item.{Item as ItemOf};
-ghost use Rattle.rv_asm.specs.Listing.{item_of, with_imm, kept_item, IsWithin};
+ghost use Rattle.rv_asm.specs.Listing.{item_of, with_imm, kept_item, IsWithin, HasRoom};
 
 use crate::item::Item;
 use mca_fixed::{Name, NoMemory};
@@ -90,6 +90,7 @@ impl Stem {
 fn short(line: u32, instr: &Instr) -> Option<Kept>
     ensures item { IfSome result (λ kept. (aside : List ItemOf) → kept_item aside kept ≡ ItemOf.Code line instr.now) }
     ensures within { IfSome result (λ kept. (aside : List ItemOf) → IsWithin aside kept) }
+    ensures some { HasRoom instr.now.imm → IsSome result }
 {
     let stem = Stem {
         line,
