@@ -1,4 +1,5 @@
--- Reading a record: its class, its arguments and its fields. A value of another form reads as one that is not given.
+-- Reading a record: its class, its arguments and its fields.
+-- No record of a table has a value of another form than its field takes; in one made by hand such a value counts as 0, as the empty name, as false, or as one that is not given.
 use Rattle.std.specs.Prelude.{ℕ, ℤ, pos, List, [], ◌∷◌, codes, nat_eq, map, slice_get, Bool, false, not, Some, None, if◌then◌else◌}
 use Rattle.std.specs.Cmp.Lexicographic.{pointwise}
 use Rattle.std.specs.Ordering.{int_eq}
