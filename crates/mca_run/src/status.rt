@@ -1,10 +1,9 @@
 //! How a call of the tool ends.
 ghost use Rattle.std.specs.Prelude.{◌≡◌, ◌++◌, IfOk, string_bytes, codes, decimal};
-ghost use Rattle.mca_words.specs.Kinds.{kind_name as word_kind_name};
 ghost use Rattle.mca_run.specs.Lines.{line_of, number_of, op_kind_name, machine_line, limit_kind_name};
 
 use mca_fixed::NoMemory;
-use mca_words::{WordFault, WordKind};
+use mca_words::WordFault;
 use rv_asm::AsmRefusal;
 use rv_isa::{Op, mnemonic};
 use sched_checks::IllKind;
@@ -111,26 +110,6 @@ impl Status {
     }
 }
 
-/// The name of a kind of fault of the words.
-fn word_kind_name(kind: WordKind) -> &'static str
-    ensures { result.now ≡ word_kind_name kind }
-{
-    match kind {
-        WordKind::UnknownOption => "UnknownOption",
-        WordKind::Repeated => "Repeated",
-        WordKind::MissingValue => "MissingValue",
-        WordKind::BadNumber => "BadNumber",
-        WordKind::OutOfRange => "OutOfRange",
-        WordKind::UnknownMachine => "UnknownMachine",
-        WordKind::TwoMachines => "TwoMachines",
-        WordKind::TooManyInputs => "TooManyInputs",
-        WordKind::NoInput => "NoInput",
-        WordKind::NoMachine => "NoMachine",
-        WordKind::NotYet => "NotYet",
-        WordKind::Memory => "Memory",
-    }
-}
-
 /// A line of a number and a kind.
 fn kind_line(alloc: Global, head: &str, number: u64, kind: &str) -> Result<String, NoMemory>
     ensures { IfOk result (λ text. string_bytes text ≡ head.now ++ decimal number ++ codes ": " ++ kind.now ++ codes "\n") }
@@ -189,9 +168,7 @@ pub(crate) fn line(alloc: Global, status: Status) -> Result<String, NoMemory>
 {
     match status {
         Status::Done => Ok(String::new(alloc)),
-        Status::Words(fault) => {
-            kind_line(alloc, "mca: word ", fault.word, word_kind_name(fault.kind))
-        }
+        Status::Words(fault) => { kind_line(alloc, "mca: word ", fault.word, fault.kind.name()) }
         Status::Assembly(refusal) => kind_line(
             alloc,
             "mca: assembly line ",

@@ -1,5 +1,6 @@
 //! What can be wrong with the words of a command line.
 ghost use Rattle.std.specs.Prelude.{◌≡◌};
+ghost use Rattle.mca_words.specs.Kinds.{kind_name};
 
 use mca_fixed::NoMemory;
 use std::alloc::{AllocError, AllocFailed};
@@ -36,15 +37,12 @@ pub enum WordKind {
     Memory,
 }
 
-/// The kind's name.
-impl fmt::Display for WordKind {
-    ghost use Rattle.std.specs.Prelude.{Some};
-    ghost use Rattle.mca_words.specs.Kinds.{kind_name};
-
-    ghost output = { λ kind. Some (kind_name kind) };
-
-    fn fmt<W: fmt::Write>(&self, f: &mut fmt::Formatter<W>) -> fmt::Result {
-        f.write_str(match self {
+impl WordKind {
+    /// The kind's name, as an error line prints it.
+    pub fn name(self) -> &'static str
+        ensures { result.now ≡ kind_name self }
+    {
+        match self {
             WordKind::UnknownOption => "UnknownOption",
             WordKind::Repeated => "Repeated",
             WordKind::MissingValue => "MissingValue",
@@ -57,7 +55,7 @@ impl fmt::Display for WordKind {
             WordKind::NoMachine => "NoMachine",
             WordKind::NotYet => "NotYet",
             WordKind::Memory => "Memory",
-        })
+        }
     }
 }
 
@@ -79,7 +77,7 @@ impl fmt::Display for WordFault {
     ghost output = { λ fault. Some (fault_text fault) };
 
     fn fmt<W: fmt::Write>(&self, f: &mut fmt::Formatter<W>) -> fmt::Result {
-        write!(f, "word {}: {}", self.word, self.kind)
+        write!(f, "word {}: {}", self.word, self.kind.name())
     }
 }
 
