@@ -69,6 +69,13 @@ pub struct WordFault {
     pub kind: WordKind,
 }
 
+impl WordFault {
+    pub(crate) const NO_MEMORY: WordFault = WordFault {
+        word: 0,
+        kind: WordKind::Memory,
+    };
+}
+
 /// `word`, the word's number, a colon and the kind's name.
 impl fmt::Display for WordFault {
     ghost use Rattle.std.specs.Prelude.{Some};
@@ -106,25 +113,19 @@ impl From<AllocError> for WordKind {
 impl From<NoMemory> for WordFault {
     ghost use Rattle.mca_words.specs.declared.fault.WordKind.TheVariants.{Memory};
 
-    ghost from_gives = { λ _ fault. fault.kind ≡ Memory };
+    ghost from_gives = { λ _ fault. fault ≡ record { word = 0; kind = Memory } };
 
     fn from(_: NoMemory) -> WordFault {
-        WordFault {
-            word: 0,
-            kind: WordKind::Memory,
-        }
+        WordFault::NO_MEMORY
     }
 }
 
 impl<T: Drop> From<AllocFailed<T>> for WordFault {
     ghost use Rattle.mca_words.specs.declared.fault.WordKind.TheVariants.{Memory};
 
-    ghost from_gives = { λ _ fault. fault.kind ≡ Memory };
+    ghost from_gives = { λ _ fault. fault ≡ record { word = 0; kind = Memory } };
 
     fn from(_: AllocFailed<T>) -> WordFault {
-        WordFault {
-            word: 0,
-            kind: WordKind::Memory,
-        }
+        WordFault::NO_MEMORY
     }
 }

@@ -48,7 +48,8 @@ fn end_fault(settings: &[Setting]) -> Option<WordKind>
 }
 
 fn end_answer(alloc: Global, settings: &[Setting], number: u64) -> Result<Options, WordFault>
-    ensures { Answers (end_answer number settings.now (end_fault settings.now)) result }
+    ensures answer { Answers (end_answer number settings.now (end_fault settings.now)) result }
+    ensures no_word { IfErr result (λ fault. fault.kind ≡ WordKind.Memory → fault.word ≡ 0) }
 {
     match end_fault(settings) {
         Some(kind) => Err(WordFault { word: number, kind }),
@@ -97,9 +98,11 @@ fn read_piece(
     requires { at < length words.now }
     ensures ok { IfOk result (λ next. (at < next) × (next ≤ length words.now) × (rest_answer (map string_bytes words.now) at settings.old.items ≡ rest_answer (map string_bytes words.now) next settings.new.items)) }
     ensures err { IfErr result (λ fault. fault.kind ≢ WordKind.Memory → rest_answer (map string_bytes words.now) at settings.old.items ≡ Err fault) }
+    ensures no_word { IfErr result (λ fault. fault.kind ≡ WordKind.Memory → fault.word ≡ 0) }
 {
     let next = next_word(words, at);
     match settings::set_by(alloc, settings, word_at(words, at), next) {
+        Err(WordKind::Memory) => Err(WordFault::NO_MEMORY),
         Err(kind) => Err(WordFault {
             word: at as u64 + 1,
             kind,
@@ -118,7 +121,8 @@ fn read_piece(
 /// whatever it begins; a truth takes one only after `=`, and is true without one. A number is one or
 /// more decimal digits, of any count, with leading zeros. No option prints a help text or a version.
 pub fn read_words(alloc: Global, words: &[String]) -> Result<Options, WordFault>
-    ensures { Answers (answer_of (map string_bytes words.now)) result }
+    ensures answer { Answers (answer_of (map string_bytes words.now)) result }
+    ensures no_word { IfErr result (λ fault. fault.kind ≡ WordKind.Memory → fault.word ≡ 0) }
 {
     let mut settings = Vec::new(alloc);
     let mut at = 0;

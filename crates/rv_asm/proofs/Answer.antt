@@ -4,12 +4,13 @@ use Rattle.std.proofs.lemmas.List.{append-nil, length-append}
 use Rattle.std.specs.List.{flat_map}
 use Rattle.std.specs.declared.option.Option.{Option}
 use Rattle.rv_asm.specs.declared.fault.AsmRefusal.{AsmRefusal}
+use Rattle.rv_asm.specs.declared.fault.Cause.{Cause}
 use Rattle.rv_asm.specs.declared.fault.Cause.TheVariants as cause
 use Rattle.rv_asm.specs.declared.fault.Fault.{Fault}
 use Rattle.rv_asm.specs.declared.item.Item.{Item}
 use Rattle.rv_asm.specs.Pieces.{Piece, IsCut}
 use Rattle.rv_asm.specs.Operands.{with_front}
-use Rattle.rv_asm.specs.Faults.{key, earlier, least, IsFirst, refusal_of}
+use Rattle.rv_asm.specs.Faults.{key, earlier, least, IsFirst, IsMemory, kind_of, refusal_of}
 use Rattle.rv_asm.specs.LongLines.{lines_of, long_in, long_from}
 use Rattle.rv_asm.specs.Steps.{Known, start, run, first_of}
 use Rattle.rv_asm.specs.Program.{items_from, names_from, statements, own_of, bad_of, comment_of, unclosed_of, of_each, faults_of, IsProgram, IsFault}
@@ -98,3 +99,19 @@ pub not_both : (text : List ℕ) (a : List Item) (m : List (List ℕ)) (r : AsmR
 not_both text a m r p q =
     let none : faults_of text q.pieces ≡ [] = ap (faults_of text) (sym (cut_unique text p.pieces q.pieces p.cut q.cut)) ∙ p.no_fault in
     no_first q.first.before q.first.after q.fault (sym q.first.among ∙ none)
+
+-- no fault of a text is told as want of memory
+told_of_text : (cause : Cause) → IsMemory (kind_of cause) → ⊥
+told_of_text cause.LongLine e = cc
+told_of_text cause.BadByte e = cc
+told_of_text cause.Directive e = cc
+told_of_text cause.Compressed e = cc
+told_of_text cause.UnknownMnemonic e = cc
+told_of_text cause.OperandCount e = cc
+told_of_text cause.BadOperand e = cc
+told_of_text cause.ImmediateRange e = cc
+told_of_text cause.Instrument e = cc
+told_of_text cause.OpenComment e = cc
+
+pub no_line : (f : Fault) (told : AsmRefusal) → told ≡ refusal_of f → IsMemory told.kind → told.line ≡ 0
+no_line f told e memory = absurd (told_of_text f.cause (sym (ap (λ r. r.kind) e) ∙ memory))

@@ -1,10 +1,11 @@
 //! The program of a text.
-ghost use Rattle.std.specs.Prelude.{◌≡◌, ◌⊎◌, ℕ, ◌+◌, ◌<◌, ◌≤◌, ◌^◌, length, List, None, Some, Err, IfOk};
+ghost use Rattle.std.specs.Prelude.{◌≡◌, ◌⊎◌, ℕ, ◌+◌, ◌<◌, ◌≤◌, ◌^◌, length, List, None, Some, Err, IfOk, IfErr};
 ghost use Rattle.rv_asm.specs.Pieces.{Piece, IsCut};
 ghost use Rattle.rv_asm.specs.Steps.{start, run};
 ghost use Rattle.rv_asm.specs.LongLines.{long_at, long_from};
 ghost use Rattle.rv_asm.specs.Faults.{IsMemory, refusal_of};
 ghost use Rattle.rv_asm.specs.Program.{IsProgram, IsFault};
+ghost use Rattle.rv_asm.specs.declared.fault.AsmKind.TheVariants.{Memory};
 ghost use Rattle.rv_asm.specs.declared.fault.AsmRefusal.{AsmRefusal as Refusal};
 
 use crate::fault::{AsmKind, AsmRefusal, Cause, Fault, kind_of};
@@ -69,7 +70,7 @@ fn long_line(text: &[u8]) -> Option<Fault>
 }
 
 fn no_memory() -> AsmRefusal
-    ensures { IsMemory result.kind }
+    ensures { result ≡ record { line = 0; kind = Memory } }
 {
     AsmRefusal {
         line: 0,
@@ -87,6 +88,7 @@ pub fn read_asm(alloc: Global, text: &[u8]) -> Result<AsmText, AsmRefusal>
     ensures program { IfOk result (λ p. IsProgram text.now p.items p.names) }
     // A refusal is want of memory, or the first fault of the text.
     ensures fault { (r : Refusal) → result ≡ Err r → IsMemory r.kind ⊎ IsFault text.now r }
+    ensures no_line { IfErr result (λ r. IsMemory r.kind → r.line ≡ 0) }
 {
     let state = match cut_through(alloc, text) {
         Ok(state) => state,

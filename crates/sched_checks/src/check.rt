@@ -1,8 +1,9 @@
 //! The first illness of a table.
-ghost use Rattle.std.specs.Prelude.{◌≡◌, ◌≤◌, [], length, IfOk};
+ghost use Rattle.std.specs.Prelude.{◌≡◌, ◌≢◌, ◌≤◌, [], length, IfOk, IfSome};
 ghost use Rattle.std.specs.List.{list_any};
 ghost use Rattle.sched_checks.specs.Checks.{is_model};
 ghost use Rattle.sched_checks.specs.Illness.{illness_from, illness_of};
+ghost use Rattle.sched_checks.specs.declared.illness.IllKind.TheVariants.{Memory};
 
 use crate::earlier::Earlier;
 use crate::illness::{IllKind, TableIllness};
@@ -26,7 +27,8 @@ fn first_of_records(
     entries: &[Entry],
 ) -> Result<Option<TableIllness>, NoMemory>
     requires { length entries.now ≤ 8192 }
-    ensures { IfOk result (λ illness. illness ≡ illness_from resources.now 1 [] entries.now) }
+    ensures first { IfOk result (λ illness. illness ≡ illness_from resources.now 1 [] entries.now) }
+    ensures no_memory { IfOk result (λ illness. IfSome illness (λ f. f.kind ≢ Memory)) }
 {
     let mut earlier = Earlier::none(alloc)?;
     for (k, entry) in entries.iter().enumerate() {
@@ -44,7 +46,8 @@ fn first_of_records(
 /// The first illness of a table of at most 8,192 records, if it has one.
 pub fn first_illness(alloc: Global, entries: &[Entry]) -> Result<Option<TableIllness>, NoMemory>
     requires { length entries.now ≤ 8192 }
-    ensures { IfOk result (λ illness. illness ≡ illness_of entries.now) }
+    ensures first { IfOk result (λ illness. illness ≡ illness_of entries.now) }
+    ensures no_memory { IfOk result (λ illness. IfSome illness (λ f. f.kind ≢ Memory)) }
 {
     if !has_model(entries) {
         return Ok(Some(TableIllness {

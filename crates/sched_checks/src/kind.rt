@@ -1,6 +1,7 @@
 //! The illness of a record.
-ghost use Rattle.std.specs.Prelude.{◌≡◌, IfOk};
+ghost use Rattle.std.specs.Prelude.{◌≡◌, ◌≢◌, Some, IfOk};
 ghost use Rattle.sched_checks.specs.Illness.{ill_kind};
+ghost use Rattle.sched_checks.specs.declared.illness.IllKind.TheVariants.{Memory};
 
 use crate::alone::{
     in_order_model, list_lengths, move_elimination, no_units, two_advances, zero_micro_ops,
@@ -22,7 +23,8 @@ pub fn ill_kind(
     earlier: &Earlier<'_>,
     entry: &Entry,
 ) -> Result<Option<IllKind>, NoMemory>
-    ensures { IfOk result (λ kind. kind ≡ ill_kind resources.now earlier.now entry.now) }
+    ensures first { IfOk result (λ kind. kind ≡ ill_kind resources.now earlier.now entry.now) }
+    ensures no_memory { IfOk result (λ kind. kind ≢ Some Memory) }
 {
     if earlier.two_models(entry) {
         return Ok(Some(IllKind::TwoModels));

@@ -15,7 +15,7 @@ use sched_records::Record;
 use std::alloc::Global;
 
 fn no_memory() -> TableIllness
-    ensures { result.kind ≡ Memory }
+    ensures { result ≡ record { number = 0; kind = Memory } }
 {
     TableIllness {
         number: 0,
@@ -34,6 +34,7 @@ pub fn validate(
     ensures healthy { IfOk result (λ table. illness_of (entries_of records.now) ≡ None) }
     ensures machine { IfOk result (λ table. ⟦<CheckedTable as Machine>⟧.meaning table ≡ machine_of (entries_of records.now) (all_defaults records.now) tuning.now) }
     ensures ill { IfErr result (IsIll (illness_of (entries_of records.now))) }
+    ensures no_record { IfErr result (λ f. f.kind ≡ Memory → f.number ≡ 0) }
 {
     let entries = match read_entries(alloc, records) {
         Ok(entries) => entries,

@@ -11,7 +11,7 @@ pub first_illness-requires : goal.first_illness-requires
 first_illness-requires c = omega (arith, ap length c.as_slice.ensures, as_many_entries c.args.records.now c.in-Ok.entries.list c.in-Ok.ensures.list, c.requires)
 
 pub returns-in-Ok-Some-clause-ill : goal.returns-in-Ok-Some-clause-ill
-returns-in-Ok-Some-clause-ill c = unless_memory _ _ (sym (c.in-Ok-Some.ensures ∙ ap illness_of (c.as_slice.ensures ∙ c.in-Ok.ensures.list)) ∙ c.in-Ok-Some.field-0-is)
+returns-in-Ok-Some-clause-ill c = unless_memory _ _ (sym (c.in-Ok-Some.ensures.first ∙ ap illness_of (c.as_slice.ensures ∙ c.in-Ok.ensures.list)) ∙ c.in-Ok-Some.field-0-is)
 
 pub keep-requires-clause-few : goal.keep-requires-clause-few
 keep-requires-clause-few c = omega (arith, as_many_entries c.args.records.now c.in-Ok.entries.list c.in-Ok.ensures.list, c.requires)
@@ -22,7 +22,7 @@ keep-requires-clause-places c = entries_in_range c.args.records.now c.in-Ok.entr
 pub new-requires-clause-valid : goal.new-requires-clause-valid
 new-requires-clause-valid c =
     let few : length c.in-Ok.entries.list ≤ 8192 = omega (arith, as_many_entries c.args.records.now c.in-Ok.entries.list c.in-Ok.ensures.list, c.requires) in
-    let healthy : illness_of c.in-Ok.entries.list ≡ None = sym (c.in-Ok-None.ensures ∙ ap illness_of c.as_slice.ensures) ∙ c.in-Ok-None.field-0-is in
+    let healthy : illness_of c.in-Ok.entries.list ≡ None = sym (c.in-Ok-None.ensures.first ∙ ap illness_of c.as_slice.ensures) ∙ c.in-Ok-None.field-0-is in
     valid c.in-Ok.entries.list c.in-Ok.entries.defaults c.args.tuning.now few
     (places c.in-Ok.entries.list c.in-Ok.entries.defaults (entries_in_range c.args.records.now c.in-Ok.entries.list c.in-Ok.entries.defaults c.in-Ok.ensures.list c.in-Ok.ensures.defaults)) healthy
 
