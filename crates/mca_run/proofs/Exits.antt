@@ -15,7 +15,7 @@ use Rattle.mca_run.specs.Machines.{fixed_of}
 use Rattle.mca_run.specs.Report.{IsRunReport, IsReport}
 use Rattle.mca_run.specs.Refusal.{Contents, Tells, IsInput}
 use Rattle.mca_run.specs.Steps.{MayRefuseWords, MayRefuseRun, OfFiles}
-use Rattle.mca_run.specs.Outcome.{Sunk, MayTell, NamedFault, NamedInOrder, LineWritten}
+use Rattle.mca_run.specs.Outcome.{Sunk, HoldsNoMemory, MayTell, NamedFault, NamedInOrder, LineWritten}
 use Rattle.mca_run.specs.declared.status.Status.{Status}
 use Rattle.mca_run.specs.declared.status.Status.TheVariants.{Done, Words, Assembly, Table, Machine, Limit, ReadFault, WriteFault, Memory}
 use Rattle.mca_run.specs.declared.status.LimitKind.{LimitKind}
@@ -97,6 +97,11 @@ written_same : (err : Sunk) (status result s : Status) → LineWritten err statu
 written_same err status result s (inl h) e not_memory not_write = sym h.0 ∙ e
 written_same err status result s (inr (inl h)) e not_memory not_write = absurd (not_memory (sym e ∙ h.0))
 written_same err status result s (inr (inr h)) e not_memory not_write = absurd (not_write (sym e ∙ h.0))
+
+pub written_no_memory : (err : Sunk) (status result : Status) → LineWritten err status result → HoldsNoMemory status → HoldsNoMemory result
+written_no_memory err status result (inl h) holds = subst HoldsNoMemory (sym h.0) holds
+written_no_memory err status result (inr (inl h)) holds = subst HoldsNoMemory (sym h.0) tt
+written_no_memory err status result (inr (inr h)) holds = subst HoldsNoMemory (sym h.0) tt
 
 words_not_memory : (fault : WordFault) → Words fault ≡ Memory → ⊥
 words_not_memory fault e = cc

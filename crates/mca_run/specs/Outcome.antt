@@ -1,13 +1,17 @@
 -- What a call of the tool leaves: the bytes on the report's sink and on the errors' sink, by its status.
-use Rattle.std.specs.Prelude.{◌≡◌, ℕ, ◌<◌, ◌⊎◌, ⊤, List, length, take, None}
+use Rattle.std.specs.Prelude.{◌≡◌, ◌≢◌, ℕ, ◌<◌, ◌⊎◌, ⊤, List, length, take, None}
 use Rattle.std.specs.declared.option.Option.{Option}
 use Rattle.std.specs.Io.KnownBytes.{Appends, Keeps}
 use Rattle.cycle_rules.specs.declared.bound.Bound.{Bound}
 use Rattle.machine_model.specs.Meaning.{MachineMeaning}
 use Rattle.mca_io.specs.Devices.{Rose}
 use Rattle.mca_words.specs.declared.fault.WordFault.{WordFault}
+use Rattle.mca_words.specs.declared.fault.WordKind.TheVariants as word
 use Rattle.mca_words.specs.declared.options.Options.{Options}
+use Rattle.rv_asm.specs.declared.fault.AsmKind.TheVariants as asm
 use Rattle.rv_asm.specs.declared.item.Item.{Item}
+use Rattle.sched_checks.specs.declared.illness.IllKind.TheVariants as ill
+use Rattle.sched_records.specs.declared.refusal.TableKind.TheVariants as table
 use Rattle.mca_run.specs.Lines.{line_of}
 use Rattle.mca_run.specs.Asked.{IsAsked, IsWordFault, iterations_of}
 use Rattle.mca_run.specs.Items.{code_of}
@@ -15,7 +19,8 @@ use Rattle.mca_run.specs.Machines.{fixed_of}
 use Rattle.mca_run.specs.Refusal.{Contents, IsInput, IsMachine, IsTaken, IsRefusal}
 use Rattle.mca_run.specs.Report.{IsReport}
 use Rattle.mca_run.specs.declared.status.Status.{Status}
-use Rattle.mca_run.specs.declared.status.Status.TheVariants.{Done, ReadFault, WriteFault, Memory}
+use Rattle.mca_run.specs.declared.status.Status.TheVariants.{Done, Words, Assembly, Table, Machine, ReadFault, WriteFault, Memory}
+use Rattle.mca_run.specs.declared.status.MachineRefusal.TheVariants as machine
 
 -- a sink before and after a call: its bytes, where it tells them, and its count of faults
 pub record Sunk : Type 0 where
@@ -79,6 +84,14 @@ pub record LineFailed (words : List (List ℕ)) (contents : Contents) (out err :
   pub may : MayTell words contents status
   pub front : GetsFront err (line_of status)
   pub kept : IsKept out
+
+-- a status has no kind that tells of want of memory, for which there is a status of its own
+abbrev pub HoldsNoMemory : Status → Type 0
+HoldsNoMemory (Words fault) = fault.kind ≢ word.Memory
+HoldsNoMemory (Assembly refusal) = refusal.kind ≢ asm.Memory
+HoldsNoMemory (Table refusal) = refusal.kind ≢ table.Memory
+HoldsNoMemory (Machine (machine.Record number kind)) = kind ≢ ill.Memory
+HoldsNoMemory _ = ⊤
 
 -- a device failed, or there was no memory
 abbrev pub IsFailure : Status → Type 0

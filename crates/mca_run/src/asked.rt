@@ -2,6 +2,7 @@
 ghost use Rattle.std.specs.Prelude.{◌≡◌, map, length, string_bytes, IfOk, IfErr};
 ghost use Rattle.mca_words.specs.InRange.{AreInRange};
 ghost use Rattle.mca_run.specs.Asked.{iterations_of, IsAsked};
+ghost use Rattle.mca_run.specs.Outcome.{HoldsNoMemory};
 ghost use Rattle.mca_run.specs.Steps.{MayRefuseWords};
 
 use crate::status::Status;
@@ -24,6 +25,7 @@ pub(crate) fn asked(alloc: Global, words: &[String]) -> Result<Options, Status>
     ensures ok { IfOk result (λ options. IsAsked (map string_bytes words.now) options) }
     ensures in_range { IfOk result AreInRange }
     ensures err { IfErr result (MayRefuseWords (map string_bytes words.now)) }
+    ensures no_memory { IfErr result HoldsNoMemory }
 {
     let options = match read_words(alloc, words) {
         Ok(options) => options,

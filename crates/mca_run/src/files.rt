@@ -3,6 +3,7 @@ ghost use Rattle.std.specs.Prelude.{◌≡◌, ◌≤◌, ◌<◌, ℕ, List, le
 ghost use Rattle.std.specs.Io.KnownBytes.{IsAtEnd};
 ghost use Rattle.mca_io.specs.Devices.{Rose};
 ghost use Rattle.mca_run.specs.Refusal.{Contents, Tells, IsInput, IsTable};
+ghost use Rattle.mca_run.specs.Outcome.{HoldsNoMemory};
 ghost use Rattle.mca_run.specs.Steps.{MayRefuseInput, MayRefuseTable, OfFiles, IsParsed, IsTabled};
 ghost use Rattle.mca_run.specs.Items.{code_of};
 
@@ -24,6 +25,7 @@ fn program(alloc: Global, text: &[u8]) -> Result<AsmText, Status>
     ensures few { IfOk result (λ asm. length asm.items ≤ 4096) }
     ensures all { IfOk result (λ asm. length (code_of asm.items) ≡ length asm.items) }
     ensures parsed { IsParsed text.now result }
+    ensures no_memory { IfErr result HoldsNoMemory }
 {
     match read_asm(alloc, text) {
         Ok(asm) => match items_fault(&asm.items) {
@@ -50,6 +52,7 @@ pub(crate) fn read_assembly<F: Shelf>(
     ensures all { IfOk result (λ asm. length (code_of asm.items) ≡ length asm.items) }
     ensures err { IfErr result (λ status. (contents : Contents) → Tells (F.told shelf.old) contents → MayRefuseInput contents options.now status) }
     ensures of_files { IfErr result OfFiles }
+    ensures no_memory { IfErr result HoldsNoMemory }
     ensures fault { result ≡ Err Status.ReadFault → Rose (F.faults shelf.old options.now.input) (F.faults shelf.new options.now.input) }
     ensures told { (n : List ℕ) → F.told shelf.new n ≡ F.told shelf.old n }
     ensures later { (n : List ℕ) → F.faults shelf.old n ≤ F.faults shelf.new n }
@@ -66,6 +69,7 @@ pub(crate) fn read_assembly<F: Shelf>(
 fn records(alloc: Global, text: &[u8]) -> Result<Records, Status>
     requires { length text.now ≤ 8388608 }
     ensures tabled { IsTabled text.now result }
+    ensures no_memory { IfErr result HoldsNoMemory }
     ensures few { IfOk result (λ records. length records ≤ 8192) }
 {
     match read_table(alloc, text) {
@@ -88,6 +92,7 @@ pub(crate) fn read_records<F: Shelf>(
     ensures end { OnOk result (IsAtEnd (F.rest shelf.new)) }
     ensures err { IfErr result (λ status. (contents : Contents) → Tells (F.told shelf.old) contents → MayRefuseTable contents options.now status) }
     ensures of_files { IfErr result OfFiles }
+    ensures no_memory { IfErr result HoldsNoMemory }
     ensures fault { result ≡ Err Status.ReadFault → Rose (F.faults shelf.old options.now.table) (F.faults shelf.new options.now.table) }
     ensures later { (n : List ℕ) → F.faults shelf.old n ≤ F.faults shelf.new n }
 {

@@ -1,6 +1,7 @@
 //! The items of a program: so far one region, without marks.
-ghost use Rattle.std.specs.Prelude.{◌≡◌, ◌≤◌, ◌<◌, length, None, IfOk};
+ghost use Rattle.std.specs.Prelude.{◌≡◌, ◌≢◌, ◌≤◌, ◌<◌, length, None, IfOk, IfSome};
 ghost use Rattle.mca_run.specs.Items.{items_fault, refused_from, code_of};
+ghost use Rattle.rv_asm.specs.declared.fault.AsmKind.TheVariants.{Memory};
 
 use mca_fixed::NoMemory;
 use rv_asm::{AsmKind, AsmRefusal, ItemRef, Listing};
@@ -13,7 +14,8 @@ const MOST: usize = 4096;
 /// The first item that is refused: an instruction past the most, or a mark.
 #[tactic(auto, using(crate::proofs::Walk::front_is))]
 fn refused(items: &Listing) -> Option<AsmRefusal>
-    ensures { result ≡ refused_from 4096 items.now }
+    ensures fault { result ≡ refused_from 4096 items.now }
+    ensures no_memory { IfSome result (λ r. r.kind ≢ Memory) }
 {
     for k in 0..items.len() {
         let (line, kind) = match items.get(k) {
@@ -29,6 +31,7 @@ fn refused(items: &Listing) -> Option<AsmRefusal>
 /// The first fault of the items.
 pub(crate) fn items_fault(items: &Listing) -> Option<AsmRefusal>
     ensures fault { result ≡ items_fault items.now }
+    ensures no_memory { IfSome result (λ r. r.kind ≢ Memory) }
     ensures some { result ≡ None → 0 < length items.now }
     ensures few { result ≡ None → length items.now ≤ 4096 }
     ensures all { result ≡ None → length (code_of items.now) ≡ length items.now }

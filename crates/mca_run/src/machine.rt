@@ -11,6 +11,7 @@ ghost use Rattle.mca_run.specs.Asked.{iterations_of};
 ghost use Rattle.mca_run.specs.Machines.{fixed_of, named_machine, built_in_meaning, IsTuned};
 ghost use Rattle.mca_run.specs.Refusal.{Contents, Tells, opcode_status};
 ghost use Rattle.mca_run.specs.Report.{IsMachineReport, IsRunReport};
+ghost use Rattle.mca_run.specs.Outcome.{HoldsNoMemory};
 ghost use Rattle.mca_run.specs.Steps.{MayRefuseCode, MayRefuseRun, MayRefuseRecords, OfFiles, ill_status};
 
 use crate::asked::iterations;
@@ -71,7 +72,8 @@ fn tuning(options: &Options) -> Tuning
 
 /// The status of an instruction that a machine does not run.
 fn opcode_status(fault: BindFault) -> Status
-    ensures { result ≡ opcode_status fault }
+    ensures status { result ≡ opcode_status fault }
+    ensures no_memory { HoldsNoMemory result }
 {
     match fault {
         BindFault::NoWriteRes(op) => {
@@ -96,6 +98,7 @@ fn report_by<M: Machine>(
     requires repeated { 0 < iterations }
     ensures ok { IfOk result (λ text. IsMachineReport (M.meaning machine.now) code.now iterations (string_bytes text)) }
     ensures err { IfErr result (MayRefuseCode (M.meaning machine.now) code.now iterations) }
+    ensures no_memory { IfErr result HoldsNoMemory }
 {
     let body = match bind(alloc, machine, code) {
         Ok(body) => body,
@@ -127,6 +130,7 @@ fn report_built_in(
     requires repeated { 0 < iterations }
     ensures ok { IfOk result (λ text. IsMachineReport (built_in_meaning machine tuning.now) code.now iterations (string_bytes text)) }
     ensures err { IfErr result (MayRefuseCode (built_in_meaning machine tuning.now) code.now iterations) }
+    ensures no_memory { IfErr result HoldsNoMemory }
 {
     match machine {
         BuiltIn::Tiny => report_by(alloc, &Tiny::make(tuning), code, iterations),
@@ -137,7 +141,8 @@ fn report_built_in(
 
 /// The status of a record's illness.
 fn ill_status(number: u32, kind: IllKind) -> Status
-    ensures { result ≡ ill_status number kind }
+    ensures status { result ≡ ill_status number kind }
+    ensures no_memory { HoldsNoMemory result }
 {
     match kind {
         IllKind::Memory => Status::Memory,
@@ -151,6 +156,7 @@ fn checked(alloc: Global, records: &[Record], tuning: &Tuning) -> Result<Checked
     ensures healthy { IfOk result (λ table. illness_of (entries_of records.now) ≡ None) }
     ensures machine { IfOk result (λ table. ⟦<CheckedTable as Machine>⟧.meaning table ≡ machine_of (entries_of records.now) (all_defaults records.now) tuning.now) }
     ensures ill { IfErr result (MayRefuseRecords records.now) }
+    ensures no_memory { IfErr result HoldsNoMemory }
 {
     match validate(alloc, records, tuning) {
         Ok(table) => Ok(table),
@@ -173,6 +179,7 @@ fn report_by_table<F: Shelf>(
     ensures ok { IfOk result (λ text. (contents : Contents) → Tells (F.told shelf.old) contents → IsRunReport contents options.now code.now (string_bytes text)) }
     ensures err { IfErr result (λ status. (contents : Contents) → Tells (F.told shelf.old) contents → MayRefuseRun contents options.now code.now status) }
     ensures of_files { IfErr result OfFiles }
+    ensures no_memory { IfErr result HoldsNoMemory }
     ensures end { OnOk result (IsAtEnd (F.rest shelf.new)) }
     ensures fault { result ≡ Err Status.ReadFault → Rose (F.faults shelf.old options.now.table) (F.faults shelf.new options.now.table) }
 {
@@ -202,6 +209,7 @@ pub(crate) fn report_as_asked<F: Shelf>(
     ensures ok { IfOk result (λ text. (contents : Contents) → Tells (F.told shelf.old) contents → IsRunReport contents options.now code.now (string_bytes text)) }
     ensures err { IfErr result (λ status. (contents : Contents) → Tells (F.told shelf.old) contents → MayRefuseRun contents options.now code.now status) }
     ensures of_files { IfErr result OfFiles }
+    ensures no_memory { IfErr result HoldsNoMemory }
     ensures end { OnOk result (IsAtEnd (F.rest shelf.new)) }
     ensures by_table { result ≡ Err Status.ReadFault → fixed_of options.now ≡ None }
     ensures fault { result ≡ Err Status.ReadFault → Rose (F.faults shelf.old options.now.table) (F.faults shelf.new options.now.table) }

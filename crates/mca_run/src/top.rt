@@ -5,7 +5,7 @@ ghost use Rattle.mca_io.specs.Devices.{Rose};
 ghost use Rattle.mca_run.specs.Asked.{IsWordFault};
 ghost use Rattle.mca_run.specs.Refusal.{Contents, Tells, IsRefusal};
 ghost use Rattle.mca_run.specs.Report.{IsReport};
-ghost use Rattle.mca_run.specs.Outcome.{sunk, IsTold, TellsLine, IsReported, ReportFailed, LineFailed, MayTell, NamedFault, NamedInOrder, LineWritten, IsComplete};
+ghost use Rattle.mca_run.specs.Outcome.{sunk, IsTold, TellsLine, IsReported, HoldsNoMemory, ReportFailed, LineFailed, MayTell, NamedFault, NamedInOrder, LineWritten, IsComplete};
 ghost use Rattle.mca_run.specs.declared.status.LimitKind.{LimitKind as LimitOf};
 ghost use Rattle.mca_run.specs.declared.status.MachineRefusal.{MachineRefusal as MachineRefusalOf};
 ghost use Rattle.mca_words.specs.declared.fault.WordFault.{WordFault as WordFaultOf};
@@ -26,6 +26,7 @@ fn work<F: Shelf>(alloc: Global, words: &[String], shelf: &mut F) -> Result<Stri
     ensures end { OnOk result (IsAtEnd (F.rest shelf.new)) }
     ensures err { IfErr result (λ status. (contents : Contents) → Tells (F.told shelf.old) contents → MayTell (map string_bytes words.now) contents status) }
     ensures words { (fault : WordFaultOf) → result ≡ Err (Status.Words fault) → IsWordFault (map string_bytes words.now) fault }
+    ensures no_memory { IfErr result HoldsNoMemory }
     ensures not_done { result ≡ Err Status.Done → ⊥ }
     ensures not_write { result ≡ Err Status.WriteFault → ⊥ }
     ensures fault { result ≡ Err Status.ReadFault → NamedFault (map string_bytes words.now) (F.faults shelf.old) (F.faults shelf.new) }
@@ -80,6 +81,8 @@ pub fn analyse<F: Shelf, O: Sink, E: Sink>(
         (refusal : MachineRefusalOf) → result ≡ Status.Machine refusal → IsRefusal (map string_bytes words.now) contents (Status.Machine refusal) }
     ensures limit { (contents : Contents) → Tells (F.told shelf.old) contents →
         (kind : LimitOf) (n : ℕ) → result ≡ Status.Limit kind n → IsRefusal (map string_bytes words.now) contents (Status.Limit kind n) }
+    // Want of memory is a status of its own.
+    ensures no_memory { HoldsNoMemory result }
 
     // Each fault of a device was counted in this call.
     ensures read_fault { result ≡ Status.ReadFault → NamedFault (map string_bytes words.now) (F.faults shelf.old) (F.faults shelf.new) }

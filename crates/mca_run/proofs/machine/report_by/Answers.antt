@@ -7,7 +7,7 @@ use Rattle.mca_run.proofs.MachineSteps.{opcode_may, run_too_long}
 use Rattle.mca_run.proofs.machine.report_by.Goals as goal
 
 pub returns-in-Err-clause-err : goal.returns-in-Err-clause-err
-returns-in-Err-clause-err g c = subst (MayRefuseCode (g.M.Machine.meaning c.args.machine.now) c.args.code.now c.args.iterations) (sym c.opcode_status.ensures)
+returns-in-Err-clause-err g c = subst (MayRefuseCode (g.M.Machine.meaning c.args.machine.now) c.args.code.now c.args.iterations) (sym c.opcode_status.ensures.status)
     (opcode_may (g.M.Machine.meaning c.args.machine.now) c.args.code.now c.args.iterations c.in-Err.fault c.in-Err.ensures)
 
 pub not_yet-requires : goal.not_yet-requires

@@ -3,7 +3,7 @@ use Rattle.mca_run.specs.Outcome.{sunk, GetsFront, MayTell}
 use Rattle.mca_run.specs.Lines.{line_of}
 use Rattle.mca_run.specs.declared.status.Status.TheVariants.{WriteFault}
 use Rattle.mca_run.proofs.Outcomes.{done_complete, line_or_front, keeps_same, tell_failed, tell_complete}
-use Rattle.mca_run.proofs.Exits.{written_words, written_assembly, written_table, written_machine, written_limit, written_read, written_done, written_rose}
+use Rattle.mca_run.proofs.Exits.{written_words, written_assembly, written_table, written_machine, written_limit, written_read, written_done, written_no_memory, written_rose}
 use Rattle.mca_run.proofs.top.analyse.Goals as goal
 
 pub returns-in-Ok-write_whole-clause-completeness : goal.returns-in-Ok-write_whole-clause-completeness
@@ -53,6 +53,10 @@ returns-in-Err-clause-machine g c = λ contents tells refusal e. subst (MayTell 
 pub returns-in-Err-clause-limit : goal.returns-in-Err-clause-limit
 returns-in-Err-clause-limit g c = λ contents tells kind n e. subst (MayTell (map string_bytes c.args.words.now) contents) (written_limit
     (sunk (g.E.Sink.contents c.args.err.now) (g.E.Sink.contents c.tell.new.err) (g.E.Sink.faults c.args.err.now) (g.E.Sink.faults c.tell.new.err)) c.in-Err.status c.tell.result kind n c.tell.ensures e) (c.in-Err.ensures.err contents tells)
+
+pub returns-in-Err-clause-no_memory : goal.returns-in-Err-clause-no_memory
+returns-in-Err-clause-no_memory g c = written_no_memory
+    (sunk (g.E.Sink.contents c.args.err.now) (g.E.Sink.contents c.tell.new.err) (g.E.Sink.faults c.args.err.now) (g.E.Sink.faults c.tell.new.err)) c.in-Err.status c.tell.result c.tell.ensures c.in-Err.ensures.no_memory
 
 pub returns-in-Err-clause-read_fault : goal.returns-in-Err-clause-read_fault
 returns-in-Err-clause-read_fault g c = λ e. c.in-Err.ensures.fault (ap Err (written_read
