@@ -53,6 +53,20 @@ awk 'BEGIN {
     for (i = 0; i < 9; i++) print "def R" i " : ProcResource<" (i % 4 + 1) ">;"
     for (i = 11; i < 8192; i++) print "def W" i " : SchedWriteRes<[R8, R7, R6, R5, R4, R3, R2, R1]> { let ReleaseAtCycles = [1, 2, 3, 4, 5, 6, 7, 8]; }"
 }' > "$work/records.td"
+# 4,000 writes with eight uses of two groups of 2,000 resources that have none in common. It is refused for its 65th
+# resource.
+awk 'BEGIN {
+    print "def M : SchedMachineModel { let MicroOpBufferSize = 8; }"
+    for (i = 0; i < 4000; i++) print "def : SchedWriteRes<[GA, GB, GA, GB, GA, GB, GA, GB]>;"
+    for (i = 0; i < 2000; i++) {
+        print "def A" i " : ProcResource<1>;"
+        print "def B" i " : ProcResource<1>;"
+        one = one (i ? ", " : "") "A" i
+        other = other (i ? ", " : "") "B" i
+    }
+    print "def GA : ProcResGroup<[" one "]>;"
+    print "def GB : ProcResGroup<[" other "]>;"
+}' > "$work/groups.td"
 { cat "$top/examples/b.td"; head -c 8380000 /dev/zero | tr '\0' '\n'; } > "$work/blank.td"
 
 time_of 'start-up, one line' "$work/one.s"
@@ -66,3 +80,4 @@ time_of 'lines of li, eight instructions each (8 MiB)' "$work/constants.s"
 time_of '932,000 different symbols (8 MiB)' "$work/symbols.s"
 time_of 'a table of 8,192 records, most with 8 uses' "$work/one.s" "$work/records.td"
 time_of 'a table of 8 MiB of blank lines' "$work/one.s" "$work/blank.td"
+time_of '4,000 writes of two large groups, refused' "$work/one.s" "$work/groups.td"
