@@ -83,14 +83,16 @@ fn code(alloc: Global, items: &Listing) -> Result<Vec<Instr>, AllocError> {
     Ok(code)
 }
 
-/// Binds instructions to each machine.
-fn bind_to_all(alloc: Global, machines: &[CheckedTable], code: &[Instr]) -> Result<(), Fault> {
+/// Binds instructions to each machine, and counts what was bound.
+fn bind_to_all(alloc: Global, machines: &[CheckedTable], code: &[Instr]) -> Result<usize, Fault> {
+    let mut bound: usize = 0;
     for machine in machines {
-        if let Err(fault) = bind(alloc, machine, code) {
-            return Err(Fault::Opcode(fault));
+        match bind(alloc, machine, code) {
+            Ok(body) => bound = bound.saturating_add(body.len()),
+            Err(fault) => return Err(Fault::Opcode(fault)),
         }
     }
-    Ok(())
+    Ok(bound)
 }
 
 /// The whole content of a file.
@@ -109,7 +111,7 @@ fn table_line(alloc: Global, name: &str, machine: &CheckedTable) -> Result<Strin
     Ok(format!(in alloc; "{name}: width {width}, reorder buffer {reorder}, resources {resources}")?)
 }
 
-/// The line of an assembly, whose instructions run on all machines.
+/// The line of an assembly. Its instructions are bound to all machines: as often as there are machines.
 fn assembly_line(
     alloc: Global,
     name: &str,
@@ -117,11 +119,13 @@ fn assembly_line(
     machines: &[CheckedTable],
 ) -> Result<String, Fault> {
     let code = code(alloc, &program.items)?;
-    bind_to_all(alloc, machines, &code)?;
+    let bound = bind_to_all(alloc, machines, &code)?;
     let instructions = code.len();
     let marks = program.items.len().saturating_sub(instructions);
     let names = program.names.len();
-    Ok(format!(in alloc; "{name}: instructions {instructions}, marks {marks}, names {names}")?)
+    Ok(format!(in alloc;
+        "{name}: instructions {instructions}, marks {marks}, names {names}, bound {bound}"
+    )?)
 }
 
 fn main(rt: HostRuntime) -> Result<(), Fault> {
