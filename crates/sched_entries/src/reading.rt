@@ -1,4 +1,4 @@
-//! Reading a one: its class, its arguments and its fields.
+//! Reading a record: its class, its arguments and its fields.
 ghost use Rattle.std.specs.Prelude.{◌≡◌, nat_eq, option_map, drop, map, IfOk};
 ghost use Rattle.std.specs.Cmp.Lexicographic.{pointwise};
 ghost use Rattle.std.specs.List.{list_any};
