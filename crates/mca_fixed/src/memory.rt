@@ -10,6 +10,11 @@ use std::fmt;
 pub struct NoMemory;
 
 impl fmt::Display for NoMemory {
+    ghost use Rattle.std.specs.Prelude.{Some};
+    ghost use Rattle.mca_fixed.specs.Texts.{no_memory_text};
+
+    ghost output = { λ wanted. Some (no_memory_text wanted) };
+
     fn fmt<W: fmt::Write>(&self, f: &mut fmt::Formatter<W>) -> fmt::Result {
         write!(f, "out of memory")
     }
