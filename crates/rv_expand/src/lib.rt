@@ -16,6 +16,3 @@ pub use expansion::expand;
 pub use law::constants_by_quotients;
 pub use pseudo::{Operand, Operands, Pseudo, PseudoKind};
 pub use value::evaluate;
-
-#[cfg(test)]
-mod tests;

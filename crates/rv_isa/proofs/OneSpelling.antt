@@ -8,7 +8,7 @@ use Rattle.rv_isa.specs.declared.op.Op.{Op}
 use Rattle.rv_isa.specs.declared.op.Op.TheVariants as op
 use Rattle.rv_isa.specs.declared.facts.Form.{Form}
 use Rattle.rv_isa.specs.declared.facts.Form.TheVariants.{RdImm, RdRs1Imm, RdRs1Rs2, RdOffset, Rs2Offset, Rs1Rs2Imm, Sets, Nothing}
-use Rattle.rv_isa.specs.declared.facts.Bounds.{Bounds}
+use Rattle.rv_isa.specs.declared.facts.ImmRange.{ImmRange}
 use Rattle.rv_isa.specs.declared.instr.Imm.{Imm}
 use Rattle.rv_isa.specs.declared.instr.Imm.TheVariants as imm
 use Rattle.rv_isa.specs.declared.instr.Instr.{Instr}
@@ -27,29 +27,29 @@ has_imm RdRs1Rs2 = false
 has_imm Nothing = false
 has_imm _ = true
 
-abbrev is_narrow : Option Bounds → Bool
+abbrev is_narrow : Option ImmRange → Bool
 is_narrow None = true
 is_narrow (Some b) = int_le (negsuc (2 ^ 20)) b.low && int_le b.high (pos (2 ^ 20))
 
 -- what a form and a range have to do with each other
-record IsRow (f : Form) (b : Option Bounds) : Type 0 where
+record IsRow (f : Form) (b : Option ImmRange) : Type 0 where
   some : is_some b ≡ has_imm f
   narrow : is_narrow b ≡ true
   sets : f ≡ Sets → b ≡ Some sets
 
-row_some : (o : Op) → is_some (facts_of o).bounds ≡ has_imm (facts_of o).form
+row_some : (o : Op) → is_some (facts_of o).range ≡ has_imm (facts_of o).form
 row_some op.Lui = refl
 row_some _ = refl
 
-row_narrow : (o : Op) → is_narrow (facts_of o).bounds ≡ true
+row_narrow : (o : Op) → is_narrow (facts_of o).range ≡ true
 row_narrow op.Lui = refl
 row_narrow _ = refl
 
-row_sets : (o : Op) → (facts_of o).form ≡ Sets → (facts_of o).bounds ≡ Some sets
+row_sets : (o : Op) → (facts_of o).form ≡ Sets → (facts_of o).range ≡ Some sets
 row_sets op.Fence e = refl
 row_sets _ e = cc
 
-is_row : (o : Op) → IsRow (facts_of o).form (facts_of o).bounds
+is_row : (o : Op) → IsRow (facts_of o).form (facts_of o).range
 is_row o = record { some = row_some o; narrow = row_narrow o; sets = row_sets o }
 
 mnemonic_lacks : (o : Op) → lacks 32 (facts_of o).mnemonic ≡ true
@@ -62,24 +62,24 @@ mnemonic_own _ = refl
 
 -- ---- what a lawful instruction is, by its form and range
 
-abbrev lawful_imm : Form → Option Bounds → Imm → Bool
+abbrev lawful_imm : Form → Option ImmRange → Imm → Bool
 lawful_imm f b imm.None = not (is_some b)
 lawful_imm f b (imm.Value n) = is_lawful_number b n
 lawful_imm f b (imm.Symbol k) = takes_symbol f
 
-lawful_imm_is : (o : Op) (n : Imm) → is_lawful_imm o n ≡ lawful_imm (facts_of o).form (facts_of o).bounds n
+lawful_imm_is : (o : Op) (n : Imm) → is_lawful_imm o n ≡ lawful_imm (facts_of o).form (facts_of o).range n
 lawful_imm_is o imm.None = refl
 lawful_imm_is o (imm.Value n) = refl
 lawful_imm_is o (imm.Symbol k) = refl
 
-record IsPart (f : Form) (b : Option Bounds) (names : List (List ℕ)) (i : Instr) : Type 0 where
+record IsPart (f : Form) (b : Option ImmRange) (names : List (List ℕ)) (i : Instr) : Type 0 where
   rd : is_lawful_register (has_rd f) i.rd ≡ true
   rs1 : is_lawful_register (has_rs1 f) i.rs1 ≡ true
   rs2 : is_lawful_register (has_rs2 f) i.rs2 ≡ true
   imm : lawful_imm f b i.imm ≡ true
   text : HasSymbolText names i.imm
 
-is_part : (names : List (List ℕ)) (i : Instr) → is_lawful i ≡ true → HasSymbolText names i.imm → IsPart (facts_of i.op).form (facts_of i.op).bounds names i
+is_part : (names : List (List ℕ)) (i : Instr) → is_lawful i ≡ true → HasSymbolText names i.imm → IsPart (facts_of i.op).form (facts_of i.op).range names i
 is_part names i h text =
     let f = (facts_of i.op).form in
     let d = is_lawful_register (has_rd f) i.rd in
@@ -102,7 +102,7 @@ narrow_abs : (low high n : ℤ) → int_le (negsuc (2 ^ 20)) low ≡ true → in
 narrow_abs low high (pos n) p q r s = grind (arith, ints)
 narrow_abs low high (negsuc n) p q r s = grind (arith, ints)
 
-small : (b : Option Bounds) (n : ℤ) → is_narrow b ≡ true → is_lawful_number b n ≡ true → unsigned_abs n < 2 ^ 64
+small : (b : Option ImmRange) (n : ℤ) → is_narrow b ≡ true → is_lawful_number b n ≡ true → unsigned_abs n < 2 ^ 64
 small None n p h = cc
 small (Some b) n p h =
     let ends = both (int_le (negsuc (2 ^ 20)) b.low) (int_le b.high (pos (2 ^ 20))) p in
@@ -110,11 +110,11 @@ small (Some b) n p h =
     let range = both (int_le b.low n) (int_le n b.high) within.0 in
     narrow_abs b.low b.high n ends.0 ends.1 range.0 range.1
 
-given : (b : Option Bounds) → is_some b ≡ true → not (is_some b) ≡ true → ⊥
+given : (b : Option ImmRange) → is_some b ≡ true → not (is_some b) ≡ true → ⊥
 given None p h = cc
 given (Some b) p h = cc
 
-imm_same : (f : Form) (b : Option Bounds) → is_some b ≡ true → is_narrow b ≡ true → (names others : List (List ℕ)) (m n : Imm)
+imm_same : (f : Form) (b : Option ImmRange) → is_some b ≡ true → is_narrow b ≡ true → (names others : List (List ℕ)) (m n : Imm)
     → lawful_imm f b m ≡ true → lawful_imm f b n ≡ true → HasSymbolText names m → HasSymbolText others n → imm_of names m ≡ imm_of others n → IsSameImm names others m n
 imm_same f b some narrow names others imm.None n p q x y e = absurd (given b some p)
 imm_same f b some narrow names others (imm.Value m) imm.None p q x y e = absurd (given b some q)
@@ -124,7 +124,7 @@ imm_same f b some narrow names others (imm.Value m) (imm.Symbol l) p q x y e = a
 imm_same f b some narrow names others (imm.Symbol k) (imm.Value n) p q x y e = absurd (symbol_is_no_number (slice_index_or names k []) x n (small b n narrow q) (sym e))
 imm_same f b some narrow names others (imm.Symbol k) (imm.Symbol l) p q x y e = e
 
-none_same : (f : Form) (b : Option Bounds) → is_some b ≡ false → takes_symbol f ≡ false → (names others : List (List ℕ)) (m n : Imm)
+none_same : (f : Form) (b : Option ImmRange) → is_some b ≡ false → takes_symbol f ≡ false → (names others : List (List ℕ)) (m n : Imm)
     → lawful_imm f b m ≡ true → lawful_imm f b n ≡ true → IsSameImm names others m n
 none_same f (Some b) none plain names others m n p q = cc
 none_same f None none plain names others imm.None imm.None p q = tt
@@ -133,7 +133,7 @@ none_same f None none plain names others imm.None (imm.Symbol l) p q = cc
 none_same f None none plain names others (imm.Value m) n p q = cc
 none_same f None none plain names others (imm.Symbol k) n p q = cc
 
-imm_lacks : (f : Form) (b : Option Bounds) → is_narrow b ≡ true → (names : List (List ℕ)) (m : Imm) → lawful_imm f b m ≡ true → HasSymbolText names m → lacks 44 (imm_of names m) ≡ true
+imm_lacks : (f : Form) (b : Option ImmRange) → is_narrow b ≡ true → (names : List (List ℕ)) (m : Imm) → lawful_imm f b m ≡ true → HasSymbolText names m → lacks 44 (imm_of names m) ≡ true
 imm_lacks f b narrow names imm.None p x = refl
 imm_lacks f b narrow names (imm.Value n) p x = signed_lacks n (small b n narrow p)
 imm_lacks f b narrow names (imm.Symbol k) p x = symbol_lacks (slice_index_or names k []) x
@@ -192,7 +192,7 @@ sets_same names others m n s t e =
 
 -- ---- operands
 
-imm_text_lacks : (f : Form) (b : Option Bounds) (names : List (List ℕ)) (i : Instr) → IsRow f b → IsPart f b names i → lacks 44 (imm_of names i.imm) ≡ true
+imm_text_lacks : (f : Form) (b : Option ImmRange) (names : List (List ℕ)) (i : Instr) → IsRow f b → IsPart f b names i → lacks 44 (imm_of names i.imm) ≡ true
 imm_text_lacks f b names i row part = imm_lacks f b row.narrow names i.imm part.imm part.text
 
 register_lacks : (r : ℕ) → is_lawful_register true r ≡ true → lacks 44 (name_of r) ≡ true
@@ -211,7 +211,7 @@ base_same names others i j r s e =
     (name_lacks_opening i.rs1 (there i.rs1 r)) (name_lacks_opening j.rs1 (there j.rs1 s)) (name_lacks_closing i.rs1 (there i.rs1 r)) (name_lacks_closing j.rs1 (there j.rs1 s)) e in
     (cut.0, register_same i.rs1 j.rs1 r s cut.1)
 
-fence_number : (b : Option Bounds) (names : List (List ℕ)) (i : Instr) → IsRow Sets b → IsPart Sets b names i → IsSetsNumber i.imm
+fence_number : (b : Option ImmRange) (names : List (List ℕ)) (i : Instr) → IsRow Sets b → IsPart Sets b names i → IsSetsNumber i.imm
 fence_number b names i row part = sets_number i.imm (subst (λ x. lawful_imm Sets x i.imm ≡ true) (row.sets refl) part.imm)
 
 each_lacks : (x y : List ℕ) → lacks 44 x ≡ true → lacks 44 y ≡ true → list_all (lacks 44) (x ∷ y ∷ []) ≡ true
@@ -220,7 +220,7 @@ each_lacks x y p q = join (lacks 44 x) (list_all (lacks 44) (y ∷ [])) p (join 
 each_of_three_lacks : (x y z : List ℕ) → lacks 44 x ≡ true → lacks 44 y ≡ true → lacks 44 z ≡ true → list_all (lacks 44) (x ∷ y ∷ z ∷ []) ≡ true
 each_of_three_lacks x y z p q r = join (lacks 44 x) (list_all (lacks 44) (y ∷ z ∷ [])) p (each_lacks y z q r)
 
-operands_lack : (f : Form) (b : Option Bounds) (names : List (List ℕ)) (i : Instr) → IsRow f b → IsPart f b names i → list_all (lacks 44) (operands names i f) ≡ true
+operands_lack : (f : Form) (b : Option ImmRange) (names : List (List ℕ)) (i : Instr) → IsRow f b → IsPart f b names i → list_all (lacks 44) (operands names i f) ≡ true
 operands_lack RdImm b names i row part = each_lacks (name_of i.rd) (imm_of names i.imm) (register_lacks i.rd part.rd) (imm_text_lacks RdImm b names i row part)
 operands_lack RdRs1Imm b names i row part =
     each_of_three_lacks (name_of i.rd) (name_of i.rs1) (imm_of names i.imm) (register_lacks i.rd part.rd) (register_lacks i.rs1 part.rs1) (imm_text_lacks RdRs1Imm b names i row part)
@@ -235,7 +235,7 @@ operands_lack Rs1Rs2Imm b names i row part =
 operands_lack Sets b names i row part = sets_lack i.imm (fence_number b names i row part)
 operands_lack Nothing b names i row part = refl
 
-operands_count : (f : Form) (b : Option Bounds) (names others : List (List ℕ)) (i j : Instr) → IsRow f b → IsPart f b names i → IsPart f b others j
+operands_count : (f : Form) (b : Option ImmRange) (names others : List (List ℕ)) (i j : Instr) → IsRow f b → IsPart f b names i → IsPart f b others j
     → length (operands names i f) ≡ length (operands others j f)
 operands_count RdImm b names others i j row p q = refl
 operands_count RdRs1Imm b names others i j row p q = refl
@@ -253,7 +253,7 @@ record AreSame (names others : List (List ℕ)) (i j : Instr) : Type 0 where
   rs2 : i.rs2 ≡ j.rs2
   imm : IsSameImm names others i.imm j.imm
 
-operands_same : (f : Form) (b : Option Bounds) (names others : List (List ℕ)) (i j : Instr) → IsRow f b → IsPart f b names i → IsPart f b others j
+operands_same : (f : Form) (b : Option ImmRange) (names others : List (List ℕ)) (i j : Instr) → IsRow f b → IsPart f b names i → IsPart f b others j
     → operands names i f ≡ operands others j f → AreSame names others i j
 operands_same RdImm b names others i j row p q e =
     let d : name_of i.rd ≡ name_of j.rd = cc in
@@ -346,12 +346,12 @@ same_op i j names others e =
     cc
 
 -- what stands behind one mnemonic
-same_rest : (o : Op) (names others : List (List ℕ)) (i j : Instr) → IsPart (facts_of o).form (facts_of o).bounds names i → IsPart (facts_of o).form (facts_of o).bounds others j
+same_rest : (o : Op) (names others : List (List ℕ)) (i j : Instr) → IsPart (facts_of o).form (facts_of o).range names i → IsPart (facts_of o).form (facts_of o).range others j
     → (facts_of o).mnemonic ++ behind (codes " ") (operands names i (facts_of o).form) ≡ (facts_of o).mnemonic ++ behind (codes " ") (operands others j (facts_of o).form)
     → AreSame names others i j
 same_rest o names others i j p q e =
     let f = (facts_of o).form in
-    let b = (facts_of o).bounds in
+    let b = (facts_of o).range in
     let row = is_row o in
     let rest : behind (codes " ") (operands names i f) ≡ behind (codes " ") (operands others j f) =
     append_cancel (facts_of o).mnemonic (behind (codes " ") (operands names i f)) (behind (codes " ") (operands others j f)) e in
@@ -364,7 +364,7 @@ pub one_spelling : (names others : List (List ℕ)) (i j : Instr) → is_lawful 
 one_spelling names others i j p q x y e =
     let o = same_op i j names others e in
     let part = is_part names i p x in
-    let other = subst (λ k. IsPart (facts_of k).form (facts_of k).bounds others j) (sym o) (is_part others j q y) in
+    let other = subst (λ k. IsPart (facts_of k).form (facts_of k).range others j) (sym o) (is_part others j q y) in
     let text = subst
     (λ k. (facts_of i.op).mnemonic ++ behind (codes " ") (operands names i (facts_of i.op).form) ≡ (facts_of k).mnemonic ++ behind (codes " ") (operands others j (facts_of k).form))
     (sym o) e in

@@ -4,7 +4,7 @@ use Rattle.std.specs.Prelude.{is_some, Option, Some, None}
 use Rattle.std.proofs.lemmas.Bool.Decides.{nat_tests}
 use Rattle.rv_isa.specs.declared.op.Op.{Op}
 use Rattle.rv_isa.specs.declared.op.Op.TheVariants as op
-use Rattle.rv_isa.specs.declared.facts.Bounds.{Bounds}
+use Rattle.rv_isa.specs.declared.facts.ImmRange.{ImmRange}
 use Rattle.rv_isa.specs.declared.instr.Imm.{Imm}
 use Rattle.rv_isa.specs.declared.instr.Imm.TheVariants as imm
 use Rattle.rv_isa.specs.declared.instr.Instr.{Instr}
@@ -16,15 +16,15 @@ both : (a b : Bool) → a && b ≡ true → (a ≡ true) × (b ≡ true)
 both true b h = (refl, h)
 both false b h = cc
 
-given : (b : Option Bounds) → not (is_some b) ≡ true → is_some b ≡ true → ⊥
+given : (b : Option ImmRange) → not (is_some b) ≡ true → is_some b ≡ true → ⊥
 given None h k = cc
 given (Some b) h k = cc
 
 -- it has an immediate where its opcode has one
-pub lawful_given : (i : Instr) → is_lawful i ≡ true → is_some (facts_of i.op).bounds ≡ true → i.imm ≢ imm.None
+pub lawful_given : (i : Instr) → is_lawful i ≡ true → is_some (facts_of i.op).range ≡ true → i.imm ≢ imm.None
 lawful_given i h some e =
     let at : is_lawful_imm i.op i.imm ≡ true = (both (is_lawful_with (facts_of i.op).form i) (is_lawful_imm i.op i.imm) h).1 in
-    given (facts_of i.op).bounds (subst (λ n. is_lawful_imm i.op n ≡ true) e at) some
+    given (facts_of i.op).range (subst (λ n. is_lawful_imm i.op n ≡ true) e at) some
 
 sets : (o : Op) (n : Imm) → is_lawful_imm o n ≡ true → IsSets (facts_of o).form n
 sets op.Fence imm.None h = cc

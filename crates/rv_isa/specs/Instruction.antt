@@ -4,7 +4,7 @@ use Rattle.std.specs.Ordering.{int_eq}
 use Rattle.rv_isa.specs.declared.op.Op.{Op}
 use Rattle.rv_isa.specs.declared.facts.Form.{Form}
 use Rattle.rv_isa.specs.declared.facts.Form.TheVariants.{RdImm, RdRs1Imm, RdRs1Rs2, RdOffset, Rs2Offset, Rs1Rs2Imm, Sets, Nothing}
-use Rattle.rv_isa.specs.declared.facts.Bounds.{Bounds}
+use Rattle.rv_isa.specs.declared.facts.ImmRange.{ImmRange}
 use Rattle.rv_isa.specs.declared.instr.Imm.{Imm}
 use Rattle.rv_isa.specs.declared.instr.Imm.TheVariants as imm
 use Rattle.rv_isa.specs.declared.instr.Instr.{Instr}
@@ -44,16 +44,16 @@ abbrev pub reads_of : Instr → List ℕ
 reads_of i = (if has_rs1 (facts_of i.op).form then i.rs1 else 0) ∷ (if has_rs2 (facts_of i.op).form then i.rs2 else 0) ∷ []
 
 -- the number stands in the range, and is even where the range asks for it
-abbrev pub is_within : Bounds → ℤ → Bool
+abbrev pub is_within : ImmRange → ℤ → Bool
 is_within b n = int_le b.low n && int_le n b.high && (not b.even || int_eq (int_rem n (pos 2)) (pos 0))
 
-abbrev pub is_lawful_number : Option Bounds → ℤ → Bool
+abbrev pub is_lawful_number : Option ImmRange → ℤ → Bool
 is_lawful_number None n = false
 is_lawful_number (Some b) n = is_within b n
 
 abbrev pub is_lawful_imm : Op → Imm → Bool
-is_lawful_imm o imm.None = not (is_some (facts_of o).bounds)
-is_lawful_imm o (imm.Value n) = is_lawful_number (facts_of o).bounds n
+is_lawful_imm o imm.None = not (is_some (facts_of o).range)
+is_lawful_imm o (imm.Value n) = is_lawful_number (facts_of o).range n
 is_lawful_imm o (imm.Symbol k) = takes_symbol (facts_of o).form
 
 -- a register that there is is one of the 32, and one that there is not is x0

@@ -1,13 +1,14 @@
 -- the table of the opcodes: what each is called, which operands it has, and what it does
 use Rattle.std.specs.Prelude.{ℕ, pos, neg_ℤ, List, [], ◌∷◌, codes, Bool, true, false, Option, Some, None, nat_eq, find, if◌then◌else◌}
 use Rattle.std.specs.Cmp.Lexicographic.{pointwise}
+use Rattle.std.specs.List.{position_or_len}
 use Rattle.rv_isa.specs.declared.op.Op.{Op}
 use Rattle.rv_isa.specs.declared.op.Op.TheVariants as op
 use Rattle.rv_isa.specs.declared.facts.Form.{Form}
 use Rattle.rv_isa.specs.declared.facts.Form.TheVariants as form
 use Rattle.rv_isa.specs.declared.facts.Kind.{Kind}
 use Rattle.rv_isa.specs.declared.facts.Kind.TheVariants as kind
-use Rattle.rv_isa.specs.declared.facts.Bounds.{Bounds}
+use Rattle.rv_isa.specs.declared.facts.ImmRange.{ImmRange}
 use Rattle.rv_isa.specs.declared.facts.ClassNames.{ClassNames}
 use Rattle.rv_isa.specs.declared.table.Row.{Row}
 
@@ -15,36 +16,36 @@ use Rattle.rv_isa.specs.declared.table.Row.{Row}
 pub record Facts : Type 0 where
   pub mnemonic : List ℕ
   pub form : Form
-  pub bounds : Option Bounds
+  pub range : Option ImmRange
   pub kind : Kind
   pub write : List ℕ
   pub read1 : List ℕ
   pub read2 : List ℕ
   pub side_effects : Bool
 
-abbrev pub row : List ℕ → Form → Option Bounds → Kind → List ℕ → List ℕ → List ℕ → Bool → Facts
-row m f b k w r s e = record { mnemonic = m; form = f; bounds = b; kind = k; write = w; read1 = r; read2 = s; side_effects = e }
+abbrev pub row : List ℕ → Form → Option ImmRange → Kind → List ℕ → List ℕ → List ℕ → Bool → Facts
+row m f b k w r s e = record { mnemonic = m; form = f; range = b; kind = k; write = w; read1 = r; read2 = s; side_effects = e }
 
 -- the ranges of the immediates
-abbrev pub upper : Bounds
+abbrev pub upper : ImmRange
 upper = record { low = pos 0; high = pos 1048575; even = false }
 
-abbrev pub signed_12 : Bounds
+abbrev pub signed_12 : ImmRange
 signed_12 = record { low = neg_ℤ (pos 2048); high = pos 2047; even = false }
 
-abbrev pub shift_64 : Bounds
+abbrev pub shift_64 : ImmRange
 shift_64 = record { low = pos 0; high = pos 63; even = false }
 
-abbrev pub shift_32 : Bounds
+abbrev pub shift_32 : ImmRange
 shift_32 = record { low = pos 0; high = pos 31; even = false }
 
-abbrev pub jump : Bounds
+abbrev pub jump : ImmRange
 jump = record { low = neg_ℤ (pos 1048576); high = pos 1048574; even = true }
 
-abbrev pub branch : Bounds
+abbrev pub branch : ImmRange
 branch = record { low = neg_ℤ (pos 4096); high = pos 4094; even = true }
 
-abbrev pub sets : Bounds
+abbrev pub sets : ImmRange
 sets = record { low = pos 0; high = pos 255; even = false }
 
 abbrev pub facts_of : Op → Facts
@@ -117,11 +118,24 @@ facts_of op.Remuw = row (codes "remuw") form.RdRs1Rs2 None kind.Plain (codes "Wr
 
 -- the opcodes, in the order of the manual's chapters
 abbrev pub opcodes : List Op
-opcodes = op.Lui ∷ op.Auipc ∷ op.Addi ∷ op.Slti ∷ op.Sltiu ∷ op.Xori ∷ op.Ori ∷ op.Andi ∷ op.Slli ∷ op.Srli ∷ op.Srai ∷ op.Add ∷ op.Sub ∷ op.Slt ∷ op.Sltu ∷ op.Xor ∷ op.Or ∷ op.And ∷ op.Sll ∷ op.Srl ∷ op.Sra ∷ op.Jal ∷ op.Jalr ∷ op.Beq ∷ op.Bne ∷ op.Blt ∷ op.Bge ∷ op.Bltu ∷ op.Bgeu ∷ op.Lb ∷ op.Lbu ∷ op.Lh ∷ op.Lhu ∷ op.Lw ∷ op.Sb ∷ op.Sh ∷ op.Sw ∷ op.Fence ∷ op.FenceTso ∷ op.Ecall ∷ op.Ebreak ∷ op.Addiw ∷ op.Slliw ∷ op.Srliw ∷ op.Sraiw ∷ op.Addw ∷ op.Subw ∷ op.Sllw ∷ op.Srlw ∷ op.Sraw ∷ op.Lwu ∷ op.Ld ∷ op.Sd ∷ op.Mul ∷ op.Mulh ∷ op.Mulhsu ∷ op.Mulhu ∷ op.Mulw ∷ op.Div ∷ op.Divu ∷ op.Rem ∷ op.Remu ∷ op.Divw ∷ op.Divuw ∷ op.Remw ∷ op.Remuw ∷ []
+opcodes =
+    op.Lui ∷ op.Auipc ∷ op.Addi ∷ op.Slti ∷ op.Sltiu ∷ op.Xori ∷ op.Ori ∷ op.Andi ∷ op.Slli ∷ op.Srli ∷ op.Srai ∷
+    op.Add ∷ op.Sub ∷ op.Slt ∷ op.Sltu ∷ op.Xor ∷ op.Or ∷ op.And ∷ op.Sll ∷ op.Srl ∷ op.Sra ∷ op.Jal ∷ op.Jalr ∷
+    op.Beq ∷ op.Bne ∷ op.Blt ∷ op.Bge ∷ op.Bltu ∷ op.Bgeu ∷ op.Lb ∷ op.Lbu ∷ op.Lh ∷ op.Lhu ∷ op.Lw ∷ op.Sb ∷ op.Sh ∷
+    op.Sw ∷ op.Fence ∷ op.FenceTso ∷ op.Ecall ∷ op.Ebreak ∷ op.Addiw ∷ op.Slliw ∷ op.Srliw ∷ op.Sraiw ∷ op.Addw ∷
+    op.Subw ∷ op.Sllw ∷ op.Srlw ∷ op.Sraw ∷ op.Lwu ∷ op.Ld ∷ op.Sd ∷ op.Mul ∷ op.Mulh ∷ op.Mulhsu ∷ op.Mulhu ∷
+    op.Mulw ∷ op.Div ∷ op.Divu ∷ op.Rem ∷ op.Remu ∷ op.Divw ∷ op.Divuw ∷ op.Remw ∷ op.Remuw ∷ []
+
+-- the number of an opcode: its place in that list
+abbrev pub same_op : Op → Op → Bool
+same_op a b = pointwise nat_eq (facts_of a).mnemonic (facts_of b).mnemonic
+
+abbrev pub op_number : Op → ℕ
+op_number o = position_or_len (same_op o) opcodes
 
 -- what a row of the code's table says
 abbrev pub facts_in : Row → Facts
-facts_in r = row r.mnemonic.now r.form r.bounds r.kind r.write.now r.read1.now r.read2.now r.side_effects
+facts_in r = row r.mnemonic.now r.form r.range r.kind r.write.now r.read1.now r.read2.now r.side_effects
 
 -- the opcode with that mnemonic
 abbrev pub op_named : List ℕ → Option Op

@@ -18,6 +18,12 @@ letter set power text = if nat_eq (bit_at set power) 1 then text else []
 abbrev pub set_of : ℕ → List ℕ
 set_of set = if nat_eq set 0 then codes "0" else letter set 3 (codes "i") ++ letter set 2 (codes "o") ++ letter set 1 (codes "r") ++ letter set 0 (codes "w")
 
+-- the sets, each at its number
+abbrev pub set_names : List (List ℕ)
+set_names =
+    codes "0" ∷ codes "w" ∷ codes "r" ∷ codes "rw" ∷ codes "o" ∷ codes "ow" ∷ codes "or" ∷ codes "orw" ∷
+    codes "i" ∷ codes "iw" ∷ codes "ir" ∷ codes "irw" ∷ codes "io" ∷ codes "iow" ∷ codes "ior" ∷ codes "iorw" ∷ []
+
 -- the predecessor set and the successor set, which are kept as one number
 abbrev pub sets_of : Imm → List (List ℕ)
 sets_of (imm.Value (pos n)) = set_of (n / 16) ∷ set_of (n % 16) ∷ []

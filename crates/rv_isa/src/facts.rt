@@ -60,13 +60,13 @@ impl Form {
 /// The numbers that an immediate may be: from `low` to `high`, both included, and the even ones alone
 /// where it is the distance to a target.
 #[derive(Clone, Copy, Debug, PartialEq, Eq)]
-pub struct Bounds {
+pub struct ImmRange {
     pub low: i64,
     pub high: i64,
     pub even: bool,
 }
 
-impl Bounds {
+impl ImmRange {
     ghost use Rattle.rv_isa.specs.Instruction.{is_within};
 
     /// Whether `number` is one of them.

@@ -6,7 +6,7 @@ ghost use Rattle.rv_isa.specs.Opcodes.{facts_of};
 use crate::facts::Form;
 use crate::op::Op;
 use crate::reg::Reg;
-use crate::table::{bounds, form, is_in_range};
+use crate::table::{form, imm_range, is_in_range};
 
 /// An immediate.
 #[derive(Clone, Copy, Debug, PartialEq, Eq)]
@@ -86,7 +86,7 @@ pub fn is_lawful_imm(op: Op, imm: Imm) -> bool
     ensures { result ≡ is_lawful_imm op imm }
 {
     match imm {
-        Imm::None => bounds(op).is_none(),
+        Imm::None => imm_range(op).is_none(),
         Imm::Value(number) => is_in_range(op, number),
         Imm::Symbol(_) => form(op).takes_symbol(),
     }

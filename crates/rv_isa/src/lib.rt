@@ -8,22 +8,22 @@ mod facts;
 mod instr;
 mod law;
 mod op;
+pub mod ranges;
 mod reg;
 mod registers;
+mod sets;
 mod spelling;
 mod table;
 
-pub use facts::{Bounds, ClassNames, Form, Kind};
+pub use facts::{ClassNames, Form, ImmRange, Kind};
 pub use instr::{Imm, Instr, is_lawful, is_lawful_imm, reads, writes};
-pub use law::one_instruction_a_spelling;
+pub use law::{each_opcode_once, one_instruction_a_spelling};
 pub use op::Op;
 pub use reg::Reg;
 pub use registers::{register_name, register_of};
+pub use sets::{set_name, set_of};
 pub use spelling::spell;
 pub use table::{
-    bounds, default_class, form, has_side_effects, is_barrier, is_in_range, is_load, is_store,
+    default_class, form, has_side_effects, imm_range, is_barrier, is_in_range, is_load, is_store,
     kind, mnemonic, op_of,
 };
-
-#[cfg(test)]
-mod tests;

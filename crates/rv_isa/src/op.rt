@@ -1,4 +1,6 @@
 //! The opcodes.
+ghost use Rattle.std.specs.Prelude.{◌≡◌, ◌<◌, length};
+ghost use Rattle.rv_isa.specs.Opcodes.{op_number, opcodes};
 
 /// The 66 opcodes of RV64IM, in the order of the manual's chapters. Each stands under the heading that
 /// the RISC-V Unprivileged ISA gives its group.
@@ -147,4 +149,29 @@ pub enum Op {
     Remw,
     /// M extension, Division Operations.
     Remuw,
+}
+
+/// The opcodes with these names.
+macro_rules! ops {
+    ($($op:ident)*) => {
+        [$(Op::$op),*]
+    };
+}
+
+impl Op {
+    /// All opcodes, each at its number.
+    pub const ALL: [Op; 66] = ops![
+        Lui Auipc Addi Slti Sltiu Xori Ori Andi Slli Srli Srai Add Sub Slt Sltu Xor Or And Sll
+        Srl Sra Jal Jalr Beq Bne Blt Bge Bltu Bgeu Lb Lbu Lh Lhu Lw Sb Sh Sw Fence FenceTso
+        Ecall Ebreak Addiw Slliw Srliw Sraiw Addw Subw Sllw Srlw Sraw Lwu Ld Sd Mul Mulh Mulhsu
+        Mulhu Mulw Div Divu Rem Remu Divw Divuw Remw Remuw
+    ];
+
+    /// The opcode's place among all opcodes.
+    pub fn number(self) -> usize
+        ensures number { result ≡ op_number self }
+        ensures bound { result < length opcodes }
+    {
+        self as usize
+    }
 }

@@ -56,7 +56,7 @@ fn numbered(text: &[u8]) -> Option<Reg>
 }
 
 /// The place of the first of these names that is the text.
-fn place_in(names: &[&str], text: &[u8]) -> Option<usize>
+pub(crate) fn place_in(names: &[&str], text: &[u8]) -> Option<usize>
     ensures place { result ≡ place_from 0 (map (λ n. n.now) names.now) text.now }
     ensures bound { IfSome result (λ place. place < length names.now) }
 {

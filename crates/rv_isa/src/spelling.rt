@@ -1,13 +1,14 @@
 //! How an instruction is spelled.
-ghost use Rattle.std.specs.Prelude.{◌≡◌, ◌≢◌, ◌<◌, ◌++◌, [], codes, length, pos, true, is_some, slice_index_or, OnOk, IfOk};
+ghost use Rattle.std.specs.Prelude.{◌≡◌, ◌≢◌, ◌++◌, codes, length, pos, true, is_some, OnOk, IfOk};
 ghost use Rattle.rv_isa.specs.Opcodes.{facts_of};
 ghost use Rattle.rv_isa.specs.Registers.{name_of};
-ghost use Rattle.rv_isa.specs.Spelling.{IsNamed, IsSets, behind, imm_of, offset_of, operands, set_of, sets_of, spelling};
+ghost use Rattle.rv_isa.specs.Spelling.{IsNamed, IsSets, behind, imm_of, offset_of, operands, sets_of, spelling};
 
 use crate::facts::Form;
 use crate::instr::{Imm, Instr};
 use crate::reg::Reg;
-use crate::registers::{name_at, register_name};
+use crate::registers::register_name;
+use crate::sets::set_name;
 use crate::table::{form, mnemonic};
 use mca_fixed::{Name, NoMemory, whole};
 use std::alloc::Global;
@@ -18,7 +19,7 @@ use std::alloc::Global;
 /// `fence` have the letters `iorw` in this order, and `0` for none.
 pub fn spell(alloc: Global, instr: &Instr, names: &[Name]) -> Result<Vec<u8>, NoMemory>
     requires named { IsNamed (length names.now) instr.now.imm }
-    requires given { is_some (facts_of instr.now.op).bounds ≡ true → instr.now.imm ≢ Imm.None }
+    requires given { is_some (facts_of instr.now.op).range ≡ true → instr.now.imm ≢ Imm.None }
     requires sets { IsSets (facts_of instr.now.op).form instr.now.imm }
     ensures { IfOk result (λ text. text.items ≡ spelling instr.now names.now) }
 {
@@ -136,19 +137,6 @@ fn sets_number(imm: Imm) -> u8
         Imm::Value(number) => number as u8,
         _ => unreachable!(),
     }
-}
-
-/// The sets of device input `i`, device output `o`, memory reads `r` and memory writes `w`, by the
-/// number in which they count 8, 4, 2 and 1.
-const SET_NAMES: [&str; 16] = [
-    "0", "w", "r", "rw", "o", "ow", "or", "orw", "i", "iw", "ir", "irw", "io", "iow", "ior", "iorw",
-];
-
-fn set_name(set: u8) -> &'static str
-    requires { set < 16 }
-    ensures { result.now ≡ set_of set }
-{
-    name_at(&SET_NAMES, set as usize)
 }
 
 fn put(text: &mut Vec<u8>, piece: &[u8]) -> Result<(), NoMemory>

@@ -3,15 +3,16 @@ ghost use Rattle.std.specs.Prelude.{◌≡◌};
 ghost use Rattle.rv_isa.specs.Instruction.{is_lawful_number};
 ghost use Rattle.rv_isa.specs.Opcodes.{facts_of, facts_in, op_in, op_named, loads, stores, bars, classes_in, classes_of};
 
-use crate::facts::{Bounds, ClassNames, Form, Kind};
+use crate::facts::{ClassNames, Form, ImmRange, Kind};
 use crate::op::Op;
+use crate::ranges::{BRANCH, JUMP, SETS, SHIFT_32, SHIFT_64, SIGNED_12, UPPER};
 
 /// A row of the table.
 struct Row {
     op: Op,
     mnemonic: &'static str,
     form: Form,
-    bounds: Option<Bounds>,
+    range: Option<ImmRange>,
     kind: Kind,
     write: &'static str,
     read1: &'static str,
@@ -19,57 +20,14 @@ struct Row {
     side_effects: bool,
 }
 
-/// The upper 20 bits of a word.
-const UPPER: Bounds = Bounds {
-    low: 0,
-    high: 1_048_575,
-    even: false,
-};
-/// Twelve bits with a sign.
-const SIGNED_12: Bounds = Bounds {
-    low: -2048,
-    high: 2047,
-    even: false,
-};
-/// How far 64 bits can be shifted.
-const SHIFT_64: Bounds = Bounds {
-    low: 0,
-    high: 63,
-    even: false,
-};
-/// How far 32 bits can be shifted.
-const SHIFT_32: Bounds = Bounds {
-    low: 0,
-    high: 31,
-    even: false,
-};
-/// How far `jal` reaches, in bytes.
-const JUMP: Bounds = Bounds {
-    low: -1_048_576,
-    high: 1_048_574,
-    even: true,
-};
-/// How far a branch reaches, in bytes.
-const BRANCH: Bounds = Bounds {
-    low: -4096,
-    high: 4094,
-    even: true,
-};
-/// Two sets of four letters.
-const SETS: Bounds = Bounds {
-    low: 0,
-    high: 255,
-    even: false,
-};
-
 /// The rows of a table, each as its opcode and the fields in their order.
 macro_rules! rows {
-    ($($op:ident: $mnemonic:literal, $form:ident, $bounds:expr, $kind:ident, $write:literal, $read1:literal, $read2:literal, $effects:literal;)*) => {
+    ($($op:ident: $mnemonic:literal, $form:ident, $range:expr, $kind:ident, $write:literal, $read1:literal, $read2:literal, $effects:literal;)*) => {
         [$(Row {
             op: Op::$op,
             mnemonic: $mnemonic,
             form: Form::$form,
-            bounds: $bounds,
+            range: $range,
             kind: Kind::$kind,
             write: $write,
             read1: $read1,
@@ -192,18 +150,18 @@ pub fn form(op: Op) -> Form
 }
 
 /// The numbers that its immediate may be; none where it has no immediate.
-pub fn bounds(op: Op) -> Option<Bounds>
-    ensures { result ≡ (facts_of op).bounds }
+pub fn imm_range(op: Op) -> Option<ImmRange>
+    ensures { result ≡ (facts_of op).range }
 {
-    row_of(op).bounds
+    row_of(op).range
 }
 
 /// Whether the opcode has an immediate, and `number` may be it.
 pub fn is_in_range(op: Op, number: i64) -> bool
-    ensures { result ≡ is_lawful_number (facts_of op).bounds number }
+    ensures { result ≡ is_lawful_number (facts_of op).range number }
 {
-    match bounds(op) {
-        Some(bounds) => bounds.contains(number),
+    match imm_range(op) {
+        Some(range) => range.contains(number),
         None => false,
     }
 }
