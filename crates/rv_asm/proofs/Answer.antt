@@ -1,5 +1,5 @@
 -- the first of all faults from the first of each rank, and the one answer of a text
-use Rattle.std.proofs.Common.{◌≡◌, ℕ, ◌+◌, ◌*◌, ◌<◌, inl, inr, List, [], ◌∷◌, ◌++◌, length, None, Some, sym, ◌∙◌, ap, refl, subst, arith, nat_eq, nat_lt}
+use Rattle.std.proofs.Common.{◌≡◌, ◌⊎◌, ℕ, ◌+◌, ◌*◌, ◌<◌, inl, inr, List, [], ◌∷◌, ◌++◌, length, None, Some, sym, ◌∙◌, ap, refl, subst, arith, nat_eq, nat_lt}
 use Rattle.std.proofs.lemmas.List.{append-nil, length-append}
 use Rattle.std.specs.List.{flat_map}
 use Rattle.std.specs.declared.option.Option.{Option}
@@ -14,7 +14,7 @@ use Rattle.rv_asm.specs.Faults.{key, earlier, least, IsFirst, IsMemory, kind_of,
 use Rattle.rv_asm.specs.LongLines.{lines_of, long_in, long_from}
 use Rattle.rv_asm.specs.Steps.{Known, start, run, first_of}
 use Rattle.rv_asm.specs.Program.{items_from, names_from, statements, own_of, bad_of, comment_of, unclosed_of, of_each, faults_of, IsProgram, IsFault}
-use Rattle.rv_asm.proofs.Cut.{decided, cut_unique}
+use Rattle.rv_asm.proofs.Cut.{decided, cut_unique, some_cut_of}
 use Rattle.rv_asm.proofs.First.{keeps, earlier_assoc, least_append, least_none, least_some, first_unique}
 use Rattle.rv_asm.proofs.Ran.{IsRead, is_read, front_front}
 
@@ -99,6 +99,19 @@ pub not_both : (text : List ℕ) (a : List Item) (m : List (List ℕ)) (r : AsmR
 not_both text a m r p q =
     let none : faults_of text q.pieces ≡ [] = ap (faults_of text) (sym (cut_unique text p.pieces q.pieces p.cut q.cut)) ∙ p.no_fault in
     no_first q.first.before q.first.after q.fault (sym q.first.among ∙ none)
+
+pub some_answer : (text : List ℕ) → ((items : List Item) × (names : List (List ℕ)) × IsProgram text items names) ⊎ ((r : AsmRefusal) × IsFault text r)
+some_answer text =
+    let there : (pieces : List Piece) × IsCut text pieces = some_cut_of text in
+    go there.0 there.1 (least (faults_of text there.0)) refl
+  where
+    go : (pieces : List Piece) → IsCut text pieces → (o : Option Fault) → least (faults_of text pieces) ≡ o → ((items : List Item) × (names : List (List ℕ)) × IsProgram text items names) ⊎ ((r : AsmRefusal) × IsFault text r)
+    go pieces cut None e = inl (
+      items_from [] (statements 1 pieces),
+      names_from [] (statements 1 pieces),
+      record { pieces = pieces; cut = cut; no_fault = least_none (faults_of text pieces) e; items = refl; names = refl },
+    )
+    go pieces cut (Some f) e = inr (refusal_of f, record { pieces = pieces; cut = cut; fault = f; first = least_some (faults_of text pieces) f e; told = refl })
 
 -- no fault of a text is told as want of memory
 told_of_text : (cause : Cause) → IsMemory (kind_of cause) → ⊥

@@ -5,8 +5,8 @@ use Rattle.std.proofs.lemmas.List.{length-append, length-drop, append-nil, take_
 use Rattle.std.proofs.Math.Seq.{take-append_seam, drop-append_seam}
 use Rattle.std.specs.List.{AllByRecursion}
 use Rattle.std.specs.declared.option.Option.{Option}
-use Rattle.rv_asm.specs.declared.kind.Kind.{Kind}
-use Rattle.rv_asm.specs.declared.kind.Kind.TheVariants as kind
+use Rattle.rv_asm.specs.declared.pieces.PieceKind.{PieceKind}
+use Rattle.rv_asm.specs.declared.pieces.PieceKind.TheVariants as kind
 use Rattle.rv_asm.specs.Statement.{begins_with, takes_strings}
 use Rattle.rv_asm.specs.Pieces.{Piece, begins, is_return, kind_at, has_close, EndsLine, IsBody, Reaches, closes, IsQuoted, after, IsPiece, joined, ArePieces, IsCut}
 use Rattle.rv_asm.specs.Extents.{quote_from, feed_from, close_from, or_end, len_of}
@@ -58,7 +58,7 @@ quote_reach k prev (b ∷ bs) rest (inr (t, other, more)) =
     let here : nat_eq b 10 ≡ false = grind (arith, nat_tests, other) in
     rw (here, t) (quote_reach (k + 1) b bs rest more ∙ omega arith)
 
-piece_len : (kind : Kind) (bytes rest : List ℕ) → Reaches kind bytes rest → len_of kind (bytes ++ rest) ≡ length bytes
+pub piece_len : (kind : PieceKind) (bytes rest : List ℕ) → Reaches kind bytes rest → len_of kind (bytes ++ rest) ≡ length bytes
 piece_len kind.Line bytes rest r = feed_reach 0 bytes rest r.0 r.1 ∙ omega arith
 piece_len kind.Block bytes rest (body, whole, is_body) = subst (λ b. len_of kind.Block (b ++ rest) ≡ length b) (sym whole) (body_len body rest is_body ∙ omega arith)
 piece_len kind.Quoted bytes rest (body, whole, quoted) = subst (λ b. len_of kind.Quoted (b ++ rest) ≡ length b) (sym whole) (ap (λ k. k + 1) (quote_reach 0 34 body rest quoted) ∙ omega arith)
@@ -84,7 +84,7 @@ nothing_at : (q : Bool) → kind_at q [] ≡ kind.Byte
 nothing_at true = refl
 nothing_at false = refl
 
-some_bytes : (q : Bool) (p : Piece) (rest : List ℕ) → IsPiece q p rest → p.bytes ++ rest ≡ [] → ⊥
+pub some_bytes : (q : Bool) (p : Piece) (rest : List ℕ) → IsPiece q p rest → p.bytes ++ rest ≡ [] → ⊥
 some_bytes q p rest is none =
     let kind : p.kind ≡ kind.Byte = is.first ∙ ap (kind_at q) none ∙ nothing_at q in
     let len : len_of p.kind (p.bytes ++ rest) ≡ length p.bytes = piece_len p.kind p.bytes rest is.reaches in
@@ -150,7 +150,7 @@ body_cut (b ∷ bs) = elim (decided (begins 42 47 (b ∷ bs))) [
       (b ∷ more.0, more.1, ap (λ t. b ∷ t) more.2, closed_later b bs more.0 more.1 more.2 h more.3))
 ]
 
-abbrev chain : Bool → Bool → Bool → Bool → Bool → Bool → Bool → Kind
+abbrev chain : Bool → Bool → Bool → Bool → Bool → Bool → Bool → PieceKind
 chain a b c d e f g = if a then kind.Line else if b then kind.Line else if c then kind.Block else if d then kind.Quoted else if e then kind.Feed else if f then kind.Semi else if g then kind.Return else kind.Byte
 
 third : (a b c d e f g : Bool) → chain a b c d e f g ≡ kind.Block → c ≡ true
@@ -216,7 +216,7 @@ end_some : (x : ℕ) (xs : List ℕ) (o : Option ℕ) → 1 ≤ or_end (x ∷ xs
 end_some x xs None = omega arith
 end_some x xs (Some k) = omega arith
 
-len_some_of : (q : Bool) (k : Kind) (x : ℕ) (xs : List ℕ) → kind_at q (x ∷ xs) ≡ k → 1 ≤ len_of k (x ∷ xs)
+len_some_of : (q : Bool) (k : PieceKind) (x : ℕ) (xs : List ℕ) → kind_at q (x ∷ xs) ≡ k → 1 ≤ len_of k (x ∷ xs)
 len_some_of q kind.Line x xs h =
     let low : 1 ≤ feed_from 1 xs = feed_low 1 xs in
     let other : x ≡ 10 → ⊥ = λ e. not_feed q xs (ap (λ b. kind_at q (b ∷ xs)) (sym e) ∙ h) in
@@ -232,7 +232,7 @@ pub len_some : (q : Bool) (text : List ℕ) → 0 < length text → 1 ≤ len_of
 len_some q [] lt = absurd (omega (arith, lt))
 len_some q (x ∷ xs) lt = len_some_of q (kind_at q (x ∷ xs)) x xs refl
 
-piece_of : (q : Bool) (k : Kind) (x : ℕ) (xs : List ℕ) → kind_at q (x ∷ xs) ≡ k → (p : Piece) × (rest : List ℕ) × (x ∷ xs ≡ p.bytes ++ rest) × IsPiece q p rest
+piece_of : (q : Bool) (k : PieceKind) (x : ℕ) (xs : List ℕ) → kind_at q (x ∷ xs) ≡ k → (p : Piece) × (rest : List ℕ) × (x ∷ xs ≡ p.bytes ++ rest) × IsPiece q p rest
 piece_of q kind.Line x xs h =
     let cut : (a : List ℕ) × (b : List ℕ) × (x ∷ xs ≡ a ++ b) × AllByRecursion (λ x. x ≢ 10) a × EndsLine b = line_cut (x ∷ xs) in
     (record { kind = kind.Line; bytes = cut.0 }, cut.1, cut.2, record { first = sym h ∙ ap (kind_at q) cut.2; reaches = (cut.3, cut.4) })

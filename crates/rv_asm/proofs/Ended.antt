@@ -5,7 +5,7 @@ use Rattle.rv_asm.specs.declared.fault.Fault.{Fault}
 use Rattle.rv_asm.specs.declared.item.Item.{Item}
 use Rattle.rv_asm.specs.Meaning.{meaning}
 use Rattle.rv_asm.specs.Faults.{earlier, least}
-use Rattle.rv_asm.specs.Code.{items_at, names_at, faults_at}
+use Rattle.rv_asm.specs.Items.{items_at, names_at, faults_at}
 use Rattle.rv_asm.specs.Steps.{Known, ended}
 
 pub ended_is : (s : Known) (text body : List ℕ) (names : List (List ℕ)) (more all marks : List Item) (fault own : Option Fault) → text ≡ s.text

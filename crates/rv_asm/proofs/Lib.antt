@@ -9,10 +9,18 @@ mod Ran
 mod Through
 pub mod Answer
 mod Right
+mod SymbolTexts
+mod SymbolsBack
+mod Holds
+mod Spellable
+mod CommaParts
+mod OneForm
 mod SpelledNumbers
+mod PrintedNumbers
 mod OneLine
 mod SpelledLine
 mod SpelledSymbols
 mod SpelledOperands
 mod SpelledForms
 mod RoundTrip
+mod SpelledLines

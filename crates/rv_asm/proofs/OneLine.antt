@@ -4,18 +4,18 @@ use Rattle.std.specs.Prelude.{◌||◌, map}
 use Rattle.std.specs.List.{AllByRecursion, flat_map}
 use Rattle.std.proofs.lemmas.Bool.Decides.{nat_tests}
 use Rattle.std.proofs.lemmas.List.{append-nil}
-use Rattle.rv_asm.specs.declared.class.Class.TheVariants as class
+use Rattle.rv_asm.specs.declared.class.ByteClass.TheVariants as class
 use Rattle.rv_asm.specs.declared.fault.Fault.{Fault}
 use Rattle.rv_asm.specs.declared.item.Item.TheVariants as item
-use Rattle.rv_asm.specs.declared.kind.Kind.{Kind}
-use Rattle.rv_asm.specs.declared.kind.Kind.TheVariants as kind
+use Rattle.rv_asm.specs.declared.pieces.PieceKind.{PieceKind}
+use Rattle.rv_asm.specs.declared.pieces.PieceKind.TheVariants as kind
 use Rattle.rv_asm.specs.Statement.{is_in, more, behind, behind_labels}
 use Rattle.rv_asm.specs.Pieces.{Piece, kind_at, joined, ArePieces}
 use Rattle.rv_asm.specs.Extents.{feeds}
 use Rattle.rv_asm.specs.Operands.{with_front}
 use Rattle.rv_asm.specs.Forms.{Fit}
 use Rattle.rv_asm.specs.Meaning.{meaning}
-use Rattle.rv_asm.specs.Code.{code_of, items_at, names_at, faults_at, named}
+use Rattle.rv_asm.specs.Items.{code_of, items_at, names_at, faults_at, named}
 use Rattle.rv_asm.specs.LongLines.{lines_of, long_in}
 use Rattle.rv_asm.specs.Program.{Placed, statements, text_of, line_of, meaning_of, marks_of, own_of, is_plain_byte, bad_of, comment_of, unclosed_of, of_each, faults_of, items_from, names_from, IsProgram}
 use Rattle.rv_asm.proofs.Cut.{decided}
@@ -32,15 +32,15 @@ abbrev pub AreCalm : List ℕ → Type 0
 AreCalm text = AllByRecursion (λ b. calm b ≡ true) text
 
 -- what such a byte is not
-record Others (b : ℕ) : Type 0 where
-  hash : nat_eq b 35 ≡ false
-  slash : nat_eq b 47 ≡ false
-  quote : nat_eq b 34 ≡ false
-  feed : nat_eq b 10 ≡ false
-  semi : nat_eq b 59 ≡ false
-  return_ : nat_eq b 13 ≡ false
-  colon : nat_eq b 58 ≡ false
-  plain : is_plain_byte b ≡ true
+pub record Others (b : ℕ) : Type 0 where
+  pub hash : nat_eq b 35 ≡ false
+  pub slash : nat_eq b 47 ≡ false
+  pub quote : nat_eq b 34 ≡ false
+  pub feed : nat_eq b 10 ≡ false
+  pub semi : nat_eq b 59 ≡ false
+  pub return_ : nat_eq b 13 ≡ false
+  pub colon : nat_eq b 58 ≡ false
+  pub plain : is_plain_byte b ≡ true
 
 not_one : (b x : ℕ) → calm b ≡ true → calm x ≡ false → nat_eq b x ≡ false
 not_one b x h g = elim (decided (nat_eq b x)) as (λ _. nat_eq b x ≡ false) [
@@ -51,7 +51,7 @@ not_one b x h g = elim (decided (nat_eq b x)) as (λ _. nat_eq b x ≡ false) [
 plain_is : (b : ℕ) → calm b ≡ true → is_plain_byte b ≡ true
 plain_is b h = grind (arith, nat_tests, h)
 
-others : (b : ℕ) → calm b ≡ true → Others b
+pub others : (b : ℕ) → calm b ≡ true → Others b
 others b h = record {
   hash = not_one b 35 h refl;
   slash = not_one b 47 h refl;
@@ -69,7 +69,7 @@ abbrev pieces_of : List ℕ → List Piece
 pieces_of [] = []
 pieces_of (b ∷ bs) = record { kind = kind.Byte; bytes = b ∷ [] } ∷ pieces_of bs
 
-calm_kind : (q : Bool) (b : ℕ) (bs : List ℕ) → Others b → kind_at q (b ∷ bs) ≡ kind.Byte
+pub calm_kind : (q : Bool) (b : ℕ) (bs : List ℕ) → Others b → kind_at q (b ∷ bs) ≡ kind.Byte
 calm_kind true b [] o = rw (o.hash, o.quote, o.feed, o.semi, o.return_) refl
 calm_kind false b [] o = rw (o.hash, o.feed, o.semi, o.return_) refl
 calm_kind true b (c ∷ cs) o = rw (o.hash, o.slash, o.quote, o.feed, o.semi, o.return_) refl
@@ -85,11 +85,11 @@ are_pieces (b ∷ bs) kept all = (record { first = sym (calm_kind _ b (joined (p
 
 -- ---- the statement
 
-abbrev placed_of : ℕ → List ℕ → List Placed
+abbrev pub placed_of : ℕ → List ℕ → List Placed
 placed_of n [] = []
 placed_of n (b ∷ bs) = record { line = n; kind = kind.Byte; bytes = b ∷ [] } ∷ placed_of n bs
 
-no_feed : (n b : ℕ) → Others b → n + feeds (b ∷ []) ≡ n
+pub no_feed : (n b : ℕ) → Others b → n + feeds (b ∷ []) ≡ n
 no_feed n b o = rw o.feed (add-zero n)
 
 one_statement : (n : ℕ) (text : List ℕ) → AreCalm text → statements n (pieces_of text) ≡ placed_of n text ∷ []
@@ -98,28 +98,28 @@ one_statement n (b ∷ bs) all =
     let p : Placed = record { line = n; kind = kind.Byte; bytes = b ∷ [] } in
     ap (λ m. with_front (p ∷ []) (statements m (pieces_of bs))) (no_feed n b (others b all.0)) ∙ ap (with_front (p ∷ [])) (one_statement n bs all.1)
 
-its_text : (n : ℕ) (text : List ℕ) → text_of (placed_of n text) ≡ text
+pub its_text : (n : ℕ) (text : List ℕ) → text_of (placed_of n text) ≡ text
 its_text n [] = refl
 its_text n (b ∷ bs) = ap (λ t. b ∷ t) (its_text n bs)
 
-its_marks : (n : ℕ) (text : List ℕ) → marks_of (placed_of n text) ≡ []
+pub its_marks : (n : ℕ) (text : List ℕ) → marks_of (placed_of n text) ≡ []
 its_marks n [] = refl
 its_marks n (b ∷ bs) = its_marks n bs
 
-its_line : (n b : ℕ) (bs : List ℕ) → is_in class.Blank b ≡ false → line_of (placed_of n (b ∷ bs)) ≡ n
+pub its_line : (n b : ℕ) (bs : List ℕ) → is_in class.Blank b ≡ false → line_of (placed_of n (b ∷ bs)) ≡ n
 its_line n b bs h = rw h refl
 
-no_labels : (kept text : List ℕ) → AreCalm text → behind kept text ≡ kept ++ text
+pub no_labels : (kept text : List ℕ) → AreCalm text → behind kept text ≡ kept ++ text
 no_labels kept [] all = sym (append-nil kept)
 no_labels kept (b ∷ bs) all = ap (λ k. behind k bs) (other_more kept b (others b all.0).colon) ∙ no_labels (kept ++ b ∷ []) bs all.1 ∙ append_assoc kept (b ∷ []) bs
 
 -- ---- the faults
 
-no_fault : (f : ℕ → Kind → List ℕ → List Fault) (n : ℕ) (text : List ℕ) → ((m b : ℕ) → calm b ≡ true → f m kind.Byte (b ∷ []) ≡ []) → AreCalm text → of_each f n (pieces_of text) ≡ []
+no_fault : (f : ℕ → PieceKind → List ℕ → List Fault) (n : ℕ) (text : List ℕ) → ((m b : ℕ) → calm b ≡ true → f m kind.Byte (b ∷ []) ≡ []) → AreCalm text → of_each f n (pieces_of text) ≡ []
 no_fault f n [] none all = refl
 no_fault f n (b ∷ bs) none all = ap (λ t. t ++ of_each f (n + feeds (b ∷ [])) (pieces_of bs)) (none n b all.0) ∙ no_fault f (n + feeds (b ∷ [])) bs none all.1
 
-no_bad : (m b : ℕ) → calm b ≡ true → bad_of m kind.Byte (b ∷ []) ≡ []
+pub no_bad : (m b : ℕ) → calm b ≡ true → bad_of m kind.Byte (b ∷ []) ≡ []
 no_bad m b h = let o : Others b = others b h in rw o.plain refl
 
 one_line : (text : List ℕ) → AreCalm text → lines_of text ≡ text ∷ []

@@ -5,18 +5,18 @@ use Rattle.std.proofs.lemmas.List.{append-nil}
 use Rattle.std.specs.Prelude.{not, is_some, ◌&&◌, if◌then◌else◌}
 use Rattle.std.specs.List.{flat_map, AllByRecursion}
 use Rattle.std.specs.declared.option.Option.{Option}
-use Rattle.rv_asm.specs.declared.class.Class.TheVariants as class
+use Rattle.rv_asm.specs.declared.class.ByteClass.TheVariants as class
 use Rattle.rv_asm.specs.declared.fault.Fault.{Fault}
 use Rattle.rv_asm.specs.declared.item.Item.{Item}
-use Rattle.rv_asm.specs.declared.kind.Kind.{Kind}
-use Rattle.rv_asm.specs.declared.kind.Kind.TheVariants as kind
+use Rattle.rv_asm.specs.declared.pieces.PieceKind.{PieceKind}
+use Rattle.rv_asm.specs.declared.pieces.PieceKind.TheVariants as kind
 use Rattle.rv_asm.specs.Statement.{skip, is_empty, more, behind, behind_labels}
 use Rattle.rv_asm.specs.Pieces.{after, Piece, begins, has_close, Reaches, joined, ArePieces, left, separates}
 use Rattle.rv_asm.specs.Extents.{feeds, close_from}
 use Rattle.rv_asm.specs.Operands.{with_front}
 use Rattle.rv_asm.specs.Meaning.{meaning}
 use Rattle.rv_asm.specs.Faults.{earlier, least}
-use Rattle.rv_asm.specs.Code.{items_at, names_at, faults_at}
+use Rattle.rv_asm.specs.Items.{items_at, names_at, faults_at}
 use Rattle.rv_asm.specs.Program.{Placed, placed, statements, text_of, line_of, meaning_of, marked, marks_of, items_from, names_from, own_of, is_plain_byte, bad_of, comment_of, unclosed_of, of_each}
 use Rattle.rv_asm.specs.Steps.{Known, start, put, ended, taken, step, run}
 use Rattle.rv_asm.proofs.Cut.{decided}
@@ -83,7 +83,7 @@ goes_on s t p front here line begun text marks st =
 same_begun : (begun line : ℕ) → begun ≡ (if nat_eq begun 0 && false then line else begun)
 same_begun begun line = elim (decided (nat_eq begun 0)) [ inl h ↦ rw h refl | inr h ↦ rw h refl ]
 
-adds : (s : Known) (k : Kind) (bytes rest : List ℕ) → Reaches k bytes rest → separates k ≡ false → Adds s (taken s k bytes) (record { line = s.line; kind = k; bytes = bytes })
+adds : (s : Known) (k : PieceKind) (bytes rest : List ℕ) → Reaches k bytes rest → separates k ≡ false → Adds s (taken s k bytes) (record { line = s.line; kind = k; bytes = bytes })
 adds s kind.Line bytes rest r e = record { stands = λ front st. goes_on s (taken s kind.Line bytes) (record { line = s.line; kind = kind.Line; bytes = bytes }) front refl refl refl refl refl st; items = refl; names = refl; own = refl }
 adds s kind.Block bytes rest r e = record { stands = λ front st. goes_on s (taken s kind.Block bytes) (record { line = s.line; kind = kind.Block; bytes = bytes }) front refl refl refl refl (sym (append-nil s.marks)) st; items = refl; names = refl; own = refl }
 adds s kind.Quoted bytes rest r e = record { stands = λ front st. goes_on s (taken s kind.Quoted bytes) (record { line = s.line; kind = kind.Quoted; bytes = bytes }) front refl refl refl refl (sym (append-nil s.marks)) st; items = refl; names = refl; own = refl }
@@ -94,7 +94,7 @@ adds s kind.Byte [] rest r e = absurd (omega (arith, r))
 adds s kind.Byte (b ∷ []) rest r e = record { stands = λ front st. goes_on s (taken s kind.Byte (b ∷ [])) (record { line = s.line; kind = kind.Byte; bytes = b ∷ [] }) front refl refl refl refl (sym (append-nil s.marks)) st; items = refl; names = refl; own = refl }
 adds s kind.Byte (b ∷ c ∷ cs) rest r e = absurd (omega (arith, r))
 
-taken_bad : (s : Known) (k : Kind) (bytes rest : List ℕ) → Reaches k bytes rest → (taken s k bytes).bad ≡ earlier s.bad (least (bad_of s.line k bytes))
+taken_bad : (s : Known) (k : PieceKind) (bytes rest : List ℕ) → Reaches k bytes rest → (taken s k bytes).bad ≡ earlier s.bad (least (bad_of s.line k bytes))
 taken_bad s kind.Line bytes rest r = sym (earlier_none s.bad)
 taken_bad s kind.Block bytes rest r = sym (earlier_none s.bad)
 taken_bad s kind.Quoted bytes rest r = sym (earlier_none s.bad)
@@ -105,7 +105,7 @@ taken_bad s kind.Byte [] rest r = absurd (omega (arith, r))
 taken_bad s kind.Byte (b ∷ []) rest r = elim (decided (is_plain_byte b)) [ inl h ↦ rw h (sym (earlier_none s.bad)) | inr h ↦ rw h refl ]
 taken_bad s kind.Byte (b ∷ c ∷ cs) rest r = absurd (omega (arith, r))
 
-taken_comment : (s : Known) (k : Kind) (bytes : List ℕ) → (taken s k bytes).comment ≡ earlier s.comment (least (comment_of s.line k bytes))
+taken_comment : (s : Known) (k : PieceKind) (bytes : List ℕ) → (taken s k bytes).comment ≡ earlier s.comment (least (comment_of s.line k bytes))
 taken_comment s kind.Line bytes = refl
 taken_comment s kind.Block bytes = sym (earlier_none s.comment)
 taken_comment s kind.Quoted bytes = sym (earlier_none s.comment)
@@ -115,7 +115,7 @@ taken_comment s kind.Return bytes = sym (earlier_none s.comment)
 taken_comment s kind.Byte [] = sym (earlier_none s.comment)
 taken_comment s kind.Byte (b ∷ bs) = sym (earlier_none s.comment)
 
-taken_unclosed : (s : Known) (k : Kind) (bytes : List ℕ) → (taken s k bytes).unclosed ≡ earlier s.unclosed (least (unclosed_of s.line k bytes))
+taken_unclosed : (s : Known) (k : PieceKind) (bytes : List ℕ) → (taken s k bytes).unclosed ≡ earlier s.unclosed (least (unclosed_of s.line k bytes))
 taken_unclosed s kind.Line bytes = sym (earlier_none s.unclosed)
 taken_unclosed s kind.Block bytes = elim (decided (has_close (drop 2 bytes))) [
   | inl h ↦ (let same : is_some (close_from 0 (drop 2 bytes)) ≡ true = close_same 0 (drop 2 bytes) ∙ h in rw (same, h) (sym (earlier_none s.unclosed)))
@@ -128,7 +128,7 @@ taken_unclosed s kind.Return bytes = sym (earlier_none s.unclosed)
 taken_unclosed s kind.Byte [] = sym (earlier_none s.unclosed)
 taken_unclosed s kind.Byte (b ∷ bs) = sym (earlier_none s.unclosed)
 
-ends_taken : (s : Known) (k : Kind) (bytes : List ℕ) → separates k ≡ true → taken s k bytes ≡ ended s
+ends_taken : (s : Known) (k : PieceKind) (bytes : List ℕ) → separates k ≡ true → taken s k bytes ≡ ended s
 ends_taken s kind.Line bytes e = absurd cc
 ends_taken s kind.Block bytes e = absurd cc
 ends_taken s kind.Quoted bytes e = absurd cc
@@ -263,7 +263,7 @@ is_read pieces are =
 
 -- ---- what the statement has behind its labels so far
 
-pub taken_text : (s : Known) (k : Kind) (bytes rest : List ℕ) → Reaches k bytes rest → (taken s k bytes).text ≡ after s.text k bytes
+pub taken_text : (s : Known) (k : PieceKind) (bytes rest : List ℕ) → Reaches k bytes rest → (taken s k bytes).text ≡ after s.text k bytes
 taken_text s kind.Line bytes rest r = refl
 taken_text s kind.Block bytes rest r = refl
 taken_text s kind.Quoted bytes rest r = refl

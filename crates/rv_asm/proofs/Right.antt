@@ -10,7 +10,7 @@ use Rattle.std.specs.declared.result.Result.{Result}
 use Rattle.std.proofs.lemmas.Bool.Decides.{nat_tests, Decides-int_eq}
 use Rattle.rv_isa.specs.declared.op.Op.{Op}
 use Rattle.rv_isa.specs.declared.op.Op.TheVariants as op
-use Rattle.rv_isa.specs.declared.facts.Bounds.{Bounds}
+use Rattle.rv_isa.specs.declared.facts.ImmRange.{ImmRange}
 use Rattle.rv_isa.specs.declared.facts.Form.{Form}
 use Rattle.rv_isa.specs.declared.instr.Imm.{Imm}
 use Rattle.rv_isa.specs.declared.instr.Imm.TheVariants as imm
@@ -33,9 +33,10 @@ use Rattle.rv_asm.specs.declared.operand.Shape.TheVariants as shape
 use Rattle.rv_asm.specs.Numbers.{number_at}
 use Rattle.rv_asm.specs.Symbols.{is_symbolic}
 use Rattle.rv_asm.specs.Statement.{is_empty}
-use Rattle.rv_asm.specs.Operands.{Operands, no_operands, symbolic, ranged, number_or_symbol, immediate, displacement, last_open, based, offset, is_wide, wrapped, wide, set_names, accept, accept_all}
+use Rattle.rv_asm.specs.Operands.{Operands, no_operands, symbolic, ranged, number_or_symbol, immediate, displacement, last_open, based, offset, is_wide, wrapped, wide, accept, accept_all}
+use Rattle.rv_isa.specs.Spelling.{set_names}
 use Rattle.rv_asm.specs.Forms.{Row, Fit, taken, fits, further, or_else, is_named, judged}
-use Rattle.rv_asm.specs.Code.{is_right}
+use Rattle.rv_asm.specs.Items.{is_right}
 use Rattle.rv_asm.proofs.Cut.{decided}
 
 -- ---- what the shapes of a form say of its operands
@@ -90,11 +91,11 @@ nothing_sound = record { rd_low = omega arith; rs1_low = omega arith; rs2_low = 
 
 -- ---- one operand
 
-mapped : {X Y : Type 0} (f : X → Y) (o : Option X) (y : Y) → option_map f o ≡ Some y → (x : X) × (o ≡ Some x) × (f x ≡ y)
+pub mapped : {X Y : Type 0} (f : X → Y) (o : Option X) (y : Y) → option_map f o ≡ Some y → (x : X) × (o ≡ Some x) × (f x ≡ y)
 mapped f None y e = absurd cc
 mapped f (Some x) y e = (x, refl, cc)
 
-chained : {X Y : Type 0} (f : X → Option Y) (o : Option X) (y : Y) → option_and_then f o ≡ Some y → (x : X) × (o ≡ Some x) × (f x ≡ Some y)
+pub chained : {X Y : Type 0} (f : X → Option Y) (o : Option X) (y : Y) → option_and_then f o ≡ Some y → (x : X) × (o ≡ Some x) × (f x ≡ Some y)
 chained f None y e = absurd cc
 chained f (Some x) y e = (x, refl, e)
 
@@ -109,7 +110,7 @@ either_low : (a b : Option ℕ) (k : ℕ) → ((j : ℕ) → a ≡ Some j → j 
 either_low None b k la lb e = lb k e
 either_low (Some j) b k la lb e = la k e
 
-register_low : (text : List ℕ) (k : ℕ) → register_named text ≡ Some k → k < 32
+pub register_low : (text : List ℕ) (k : ℕ) → register_named text ≡ Some k → k < 32
 register_low text k e = elim (decided (pointwise nat_eq text (102 ∷ 112 ∷ []))) [
   | inl h ↦ (let here : Some 8 ≡ Some k = rw h at e in let same : 8 ≡ k = cc in omega (arith, same))
   | inr h ↦ (let more : option_or (place_from 0 abi_names text) (place_from 0 numbered_names text) ≡ Some k = rw h at e in
@@ -137,7 +138,7 @@ ranged_sets : (o : Operand) (within : Bool) (n : ℤ) (p : Operands) → (within
 ranged_sets o true n p ok = record { rd = refl; rs1 = refl; rs2 = refl; pred = refl; imm_is = λ _. ok refl }
 ranged_sets o false n p ok = record { rd = refl; rs1 = refl; rs2 = refl; pred = refl; imm_is = λ h. absurd cc }
 
-number_sets : (b : Bounds) (o : Operand) (text : List ℕ) (p q : Operands) (r : Option ℤ) → ((n : ℤ) → is_that o (imm.Value n) ≡ is_within b n) → is_that o (imm.Symbol 0) ≡ true → number_or_symbol b text p r ≡ Some q → Sets o p q
+number_sets : (b : ImmRange) (o : Operand) (text : List ℕ) (p q : Operands) (r : Option ℤ) → ((n : ℤ) → is_that o (imm.Value n) ≡ is_within b n) → is_that o (imm.Symbol 0) ≡ true → number_or_symbol b text p r ≡ Some q → Sets o p q
 number_sets b o text p q None value symbol e = symbolic_sets o text p q symbol e
 number_sets b o text p q (Some n) value symbol e =
     let same : ranged (is_within b n) n p ≡ q = cc in
@@ -202,7 +203,7 @@ offset_sound s text p q e so = elim (decided (ends_with nat_eq text (41 ∷ []))
   | inr h ↦ (let none : None ≡ Some q = rw h at e in absurd cc)
 ]
 
-number_sound : (s : Slots) (o : Op) (b : Bounds) (text : List ℕ) (p q : Operands) → ((n : ℤ) → is_that (asks.Of o) (imm.Value n) ≡ is_within b n) → is_that (asks.Of o) (imm.Symbol 0) ≡ true → immediate b text p ≡ Some q → Sound s p → Sound (with_imm s o) q
+number_sound : (s : Slots) (o : Op) (b : ImmRange) (text : List ℕ) (p q : Operands) → ((n : ℤ) → is_that (asks.Of o) (imm.Value n) ≡ is_within b n) → is_that (asks.Of o) (imm.Symbol 0) ≡ true → immediate b text p ≡ Some q → Sound s p → Sound (with_imm s o) q
 number_sound s o b text p q value symbol e so = with_sets s (asks.Of o) p q (number_sets b (asks.Of o) text p q (number_at text) value symbol e) so
 
 thread_sound : (s : Slots) (text : List ℕ) (p q : Operands) → accept shape.ThreadAdd text p ≡ Some q → Sound s p → Sound (slot_after shape.ThreadAdd s) q
@@ -211,7 +212,7 @@ thread_sound s text p q e so = elim (decided (starts_with nat_eq text (codes "%t
   | inr h ↦ (let none : None ≡ Some q = rw h at e in absurd cc)
 ]
 
-set_low : (text : List ℕ) (k : ℕ) → place_from 0 set_names text ≡ Some k → k < 16
+pub set_low : (text : List ℕ) (k : ℕ) → place_from 0 set_names text ≡ Some k → k < 16
 set_low text k e = place_low 0 set_names text k e
 
 accept_sound : (x : Shape) (s : Slots) (text : List ℕ) (p q : Operands) → accept x text p ≡ Some q → Sound s p → Sound (slot_after x s) q
@@ -254,19 +255,19 @@ abbrev same_bool : Bool → Bool → Bool
 same_bool true b = b
 same_bool false b = not b
 
-abbrev same_bounds : Option Bounds → Option Bounds → Bool
-same_bounds None None = true
-same_bounds None (Some b) = false
-same_bounds (Some a) None = false
-same_bounds (Some a) (Some b) = int_eq a.low b.low && int_eq a.high b.high && same_bool a.even b.even
+abbrev same_range : Option ImmRange → Option ImmRange → Bool
+same_range None None = true
+same_range None (Some b) = false
+same_range (Some a) None = false
+same_range (Some a) (Some b) = int_eq a.low b.low && int_eq a.high b.high && same_bool a.even b.even
 
 -- whatever immediate the one is, the other one is too
 abbrev agrees : Operand → Operand → Bool
 agrees asks.Nothing asks.Nothing = true
 agrees asks.AnyNumber asks.AnyNumber = true
 agrees asks.Symbol asks.Symbol = true
-agrees asks.Nothing (asks.Of b) = not (is_some (facts_of b).bounds)
-agrees (asks.Of a) (asks.Of b) = same_bounds (facts_of a).bounds (facts_of b).bounds && same_bool (takes_symbol (facts_of a).form) (takes_symbol (facts_of b).form)
+agrees asks.Nothing (asks.Of b) = not (is_some (facts_of b).range)
+agrees (asks.Of a) (asks.Of b) = same_range (facts_of a).range (facts_of b).range && same_bool (takes_symbol (facts_of a).form) (takes_symbol (facts_of b).form)
 agrees _ _ = false
 
 abbrev implies : Bool → Bool → Bool
@@ -298,11 +299,11 @@ same_bool_is false false h = refl
 int_same : (a b : ℤ) → int_eq a b ≡ true → a ≡ b
 int_same a b h = grind (arith, Decides-int_eq a b)
 
-same_bounds_is : (a b : Option Bounds) → same_bounds a b ≡ true → a ≡ b
-same_bounds_is None None h = refl
-same_bounds_is None (Some b) h = absurd cc
-same_bounds_is (Some a) None h = absurd cc
-same_bounds_is (Some a) (Some b) h =
+same_range_is : (a b : Option ImmRange) → same_range a b ≡ true → a ≡ b
+same_range_is None None h = refl
+same_range_is None (Some b) h = absurd cc
+same_range_is (Some a) None h = absurd cc
+same_range_is (Some a) (Some b) h =
     let first : (int_eq a.low b.low && int_eq a.high b.high ≡ true) × (same_bool a.even b.even ≡ true) = both (int_eq a.low b.low && int_eq a.high b.high) (same_bool a.even b.even) h in
     let second : (int_eq a.low b.low ≡ true) × (int_eq a.high b.high ≡ true) = both (int_eq a.low b.low) (int_eq a.high b.high) first.0 in
     let low : a.low ≡ b.low = int_same a.low b.low second.0 in
@@ -312,13 +313,13 @@ same_bounds_is (Some a) (Some b) h =
 
 of_agrees : (a b : Op) (i : Imm) → agrees (asks.Of a) (asks.Of b) ≡ true → is_lawful_imm a i ≡ true → is_lawful_imm b i ≡ true
 of_agrees a b i h =
-    let parts : (same_bounds (facts_of a).bounds (facts_of b).bounds ≡ true) × (same_bool (takes_symbol (facts_of a).form) (takes_symbol (facts_of b).form) ≡ true) =
-    both (same_bounds (facts_of a).bounds (facts_of b).bounds) (same_bool (takes_symbol (facts_of a).form) (takes_symbol (facts_of b).form)) h in
-    let bounds : (facts_of a).bounds ≡ (facts_of b).bounds = same_bounds_is (facts_of a).bounds (facts_of b).bounds parts.0 in
+    let parts : (same_range (facts_of a).range (facts_of b).range ≡ true) × (same_bool (takes_symbol (facts_of a).form) (takes_symbol (facts_of b).form) ≡ true) =
+    both (same_range (facts_of a).range (facts_of b).range) (same_bool (takes_symbol (facts_of a).form) (takes_symbol (facts_of b).form)) h in
+    let bounds : (facts_of a).range ≡ (facts_of b).range = same_range_is (facts_of a).range (facts_of b).range parts.0 in
     let symbol : takes_symbol (facts_of a).form ≡ takes_symbol (facts_of b).form = same_bool_is (takes_symbol (facts_of a).form) (takes_symbol (facts_of b).form) parts.1 in
     go i bounds symbol
   where
-    go : (j : Imm) → (facts_of a).bounds ≡ (facts_of b).bounds → takes_symbol (facts_of a).form ≡ takes_symbol (facts_of b).form → is_lawful_imm a j ≡ true → is_lawful_imm b j ≡ true
+    go : (j : Imm) → (facts_of a).range ≡ (facts_of b).range → takes_symbol (facts_of a).form ≡ takes_symbol (facts_of b).form → is_lawful_imm a j ≡ true → is_lawful_imm b j ≡ true
     go imm.None bounds symbol g = ap (λ o. not (is_some o)) (sym bounds) ∙ g
     go (imm.Value n) bounds symbol g = ap (λ o. is_lawful_number o n) (sym bounds) ∙ g
     go (imm.Symbol k) bounds symbol g = sym symbol ∙ g
@@ -376,7 +377,7 @@ makes_is (Several k) s p h within so =
 
 -- ---- what the table gives
 
-chosen : (b : Bool) (x y z : Result Fit Cause) → (if b then x else y) ≡ z → ((b ≡ true) × (x ≡ z)) ⊎ ((b ≡ false) × (y ≡ z))
+pub chosen : (b : Bool) (x y z : Result Fit Cause) → (if b then x else y) ≡ z → ((b ≡ true) × (x ≡ z)) ⊎ ((b ≡ false) × (y ≡ z))
 chosen true x y z e = inl (refl, e)
 chosen false x y z e = inr (refl, e)
 

@@ -1,13 +1,16 @@
 -- a line that holds the spelling of an instruction has that instruction
-use Rattle.std.proofs.Common.{◌≡◌, ℕ, ◌≤◌, List, [], ◌∷◌, ◌++◌, length, Some, Ok, Err, ◌∙◌, ap, refl, subst, nat_eq, true, false, Bool}
+use Rattle.std.proofs.Common.{suc, sym, arith, ◌≡◌, ℕ, ◌≤◌, List, [], ◌∷◌, ◌++◌, length, Some, Ok, Err, ◌∙◌, ap, refl, subst, nat_eq, true, false, Bool}
 use Rattle.std.specs.Prelude.{◌&&◌, not, map, codes, if◌then◌else◌}
 use Rattle.std.specs.List.{AllByRecursion, list_all}
 use Rattle.rv_isa.specs.declared.op.Op.{Op}
 use Rattle.rv_isa.specs.declared.instr.Instr.{Instr}
 use Rattle.rv_isa.specs.Instruction.{is_lawful}
 use Rattle.rv_isa.specs.Opcodes.{facts_of}
+use Rattle.rv_isa.specs.declared.instr.Imm.{Imm}
+use Rattle.rv_isa.specs.declared.instr.Imm.TheVariants as imm
+use Rattle.rv_isa.specs.Symbol.{HasSymbolText}
 use Rattle.rv_isa.specs.Spelling.{operands, spelling, behind as behind_each}
-use Rattle.rv_asm.specs.declared.class.Class.TheVariants as class
+use Rattle.rv_asm.specs.declared.class.ByteClass.TheVariants as class
 use Rattle.rv_asm.specs.declared.fault.Cause.TheVariants as cause
 use Rattle.rv_asm.specs.declared.form.Makes.TheVariants.{One}
 use Rattle.rv_asm.specs.declared.item.Item.TheVariants as item
@@ -16,9 +19,9 @@ use Rattle.rv_asm.specs.Operands.{Operands, accept_all, no_operands}
 use Rattle.rv_asm.specs.Forms.{Row, Fit, taken, fits}
 use Rattle.rv_asm.specs.Table.{forms}
 use Rattle.rv_asm.specs.Meaning.{meaning, fit_in}
-use Rattle.rv_asm.specs.Code.{code_of, named}
+use Rattle.rv_asm.specs.Items.{code_of, numbered, named}
 use Rattle.rv_asm.specs.Program.{IsProgram}
-use Rattle.rv_asm.specs.Spelled.{symbols_of, alone, HasSymbol}
+use Rattle.rv_asm.specs.Spelled.{symbols_of, first_symbol, alone, symbol_in, renumbered}
 use Rattle.rv_asm.proofs.OneLine.{tame, calm, AreCalm, one_program}
 use Rattle.rv_asm.proofs.SpelledLine.{IsOperand, IsMnemonic, line_means}
 use Rattle.rv_asm.proofs.SpelledSymbols.{all_join}
@@ -68,21 +71,64 @@ opposite false h = refl
 blank_not : (b : ℕ) → is_in class.Symbol b && not (is_in class.Blank b) ≡ true → is_in class.Blank b ≡ false
 blank_not b h = opposite (is_in class.Blank b) (both (is_in class.Symbol b) (not (is_in class.Blank b)) h).1
 
-first_of : (m rest : List ℕ) → IsMnemonic m → AreCalm (m ++ rest) → length (m ++ rest) ≤ 4096 → (fit : Fit) → meaning (m ++ rest) ≡ Ok (Some fit)
-    → IsProgram (m ++ rest) (map (λ i. item.Code 1 i) (code_of [] fit)) (named [] fit.operands.symbol fit.operands.imm)
-first_of [] rest is all le fit e = absurd (let no : true ≡ false = is.some in cc)
-first_of (b ∷ bs) rest is all le fit e = one_program b (bs ++ rest) fit all (blank_not b (both (is_in class.Symbol b && not (is_in class.Blank b)) (list_all (λ x. is_in class.Symbol x && not (is_in class.Blank x)) bs) is.symbols).0) le e
+-- what the line of an instruction means: the instruction, whichever names have appeared before
+pub record IsReadLine (names : List (List ℕ)) (i : Instr) : Type 0 where
+  pub fit : Fit
+  pub means : meaning (spelling i names) ≡ Ok (Some fit)
+  pub calm : AreCalm (spelling i names)
+  pub first : ℕ
+  pub rest : List ℕ
+  pub whole : spelling i names ≡ first ∷ rest
+  pub no_blank : is_in class.Blank first ≡ false
+  pub code : (before : List (List ℕ)) → code_of before fit ≡ renumbered names before i ∷ []
+  pub names_are : (before : List (List ℕ)) → named before fit.operands.symbol fit.operands.imm ≡ named before (symbol_in names i.imm) i.imm
 
-pub spelled_back : (i : Instr) (names : List (List ℕ)) → is_lawful i ≡ true → HasSymbol names i.imm → length (spelling i names) ≤ 4096 → IsProgram (spelling i names) (item.Code 1 (alone i) ∷ []) (symbols_of names i.imm)
-spelled_back i names lawful symbol le =
+first_of : (m rest : List ℕ) → IsMnemonic m → (b : ℕ) × (bs : List ℕ) × (m ++ rest ≡ b ∷ bs) × (is_in class.Blank b ≡ false)
+first_of [] rest is = absurd (let no : true ≡ false = is.some in cc)
+first_of (b ∷ bs) rest is = (b, bs ++ rest, refl, blank_not b (both (is_in class.Symbol b && not (is_in class.Blank b)) (list_all (λ x. is_in class.Symbol x && not (is_in class.Blank x)) bs) is.symbols).0)
+
+pub line_read : (i : Instr) (names : List (List ℕ)) → is_lawful i ≡ true → HasSymbolText names i.imm → IsReadLine names i
+line_read i names lawful symbol =
     let ts : List (List ℕ) = operands names i (facts_of i.op).form in
     let m : List ℕ = (facts_of i.op).mnemonic in
     let rest : List ℕ = behind_each (codes " ") ts in
     let r : ReadsAll i names (facts_of i.op).form = reads_all i names lawful symbol in
     let fit : Fit = record { makes = One i.op; operands = r.read } in
     let fits_it : fits (row_for i.op) ts ≡ Ok fit = row_fits (row_for i.op) ts r.read r.count r.is_read r.within in
-    let means : meaning (m ++ rest) ≡ Ok (Some fit) = line_means m ts fit (op_mnemonic i.op) r.all (not_compressed i.op rest) (op_fit i.op ts fit fits_it) in
-    let calm_line : AreCalm (m ++ rest) = all_join (λ b. calm b ≡ true) m rest (mnemonic_calm m (op_mnemonic i.op).symbols) (behind_calm (codes " ") ts (refl, tt) r.all) in
-    let all : IsProgram (m ++ rest) (map (λ j. item.Code 1 j) (code_of [] fit)) (named [] fit.operands.symbol fit.operands.imm) = first_of m rest (op_mnemonic i.op) calm_line le fit means in
-    let code : map (λ j. item.Code 1 j) (code_of [] fit) ≡ item.Code 1 (alone i) ∷ [] = λ t. item.Code 1 (record { op = i.op; rd = r.rd t; rs1 = r.rs1 t; rs2 = r.rs2 t; imm = r.imm_is t }) ∷ [] in
-    subst (λ n. IsProgram (m ++ rest) (item.Code 1 (alone i) ∷ []) n) r.named_is (subst (λ c. IsProgram (m ++ rest) c (named [] fit.operands.symbol fit.operands.imm)) code all)
+    let begun : (b : ℕ) × (bs : List ℕ) × (m ++ rest ≡ b ∷ bs) × (is_in class.Blank b ≡ false) = first_of m rest (op_mnemonic i.op) in
+    record {
+      fit = fit;
+      means = line_means m ts fit (op_mnemonic i.op) r.all (not_compressed i.op rest) (op_fit i.op ts fit fits_it);
+      calm = all_join (λ b. calm b ≡ true) m rest (mnemonic_calm m (op_mnemonic i.op).symbols) (behind_calm (codes " ") ts (refl, tt) r.all);
+      first = begun.0;
+      rest = begun.1;
+      whole = begun.2;
+      no_blank = begun.3;
+      code = λ before t. record { op = i.op; rd = r.rd t; rs1 = r.rs1 t; rs2 = r.rs2 t; imm = r.imm_is before t } ∷ [];
+      names_are = r.named_is;
+    }
+
+first_number : (names : List (List ℕ)) (j : Imm) → numbered [] (symbol_in names j) j ≡ first_symbol j
+first_number names (imm.Symbol k) = refl
+first_number names (imm.Value n) = refl
+first_number names imm.None = refl
+
+first_name : (names : List (List ℕ)) (j : Imm) → named [] (symbol_in names j) j ≡ symbols_of names j
+first_name names (imm.Symbol k) = refl
+first_name names (imm.Value n) = refl
+first_name names imm.None = refl
+
+begun_program : (text : List ℕ) (b : ℕ) (bs : List ℕ) (fit : Fit) → text ≡ b ∷ bs → AreCalm text → is_in class.Blank b ≡ false → length text ≤ 4096 → meaning text ≡ Ok (Some fit)
+    → IsProgram text (map (λ i. item.Code 1 i) (code_of [] fit)) (named [] fit.operands.symbol fit.operands.imm)
+begun_program [] b bs fit whole all no_blank le e = absurd (let no : 0 ≡ suc (length bs) = ap length whole in omega (arith, no))
+begun_program (c ∷ cs) b bs fit whole all no_blank le e = one_program c cs fit all (subst (λ x. is_in class.Blank x ≡ false) (sym (heads c b cs bs whole)) no_blank) le e
+  where
+    heads : (x y : ℕ) (xs ys : List ℕ) → x ∷ xs ≡ y ∷ ys → x ≡ y
+    heads x y xs ys same = cc
+
+pub spelled_back : (i : Instr) (names : List (List ℕ)) → is_lawful i ≡ true → HasSymbolText names i.imm → length (spelling i names) ≤ 4096 → IsProgram (spelling i names) (item.Code 1 (alone i) ∷ []) (symbols_of names i.imm)
+spelled_back i names lawful symbol le =
+    let l : IsReadLine names i = line_read i names lawful symbol in
+    let all : IsProgram (spelling i names) (map (λ j. item.Code 1 j) (code_of [] l.fit)) (named [] l.fit.operands.symbol l.fit.operands.imm) = begun_program (spelling i names) l.first l.rest l.fit l.whole l.calm l.no_blank le l.means in
+    let code : map (λ j. item.Code 1 j) (code_of [] l.fit) ≡ item.Code 1 (alone i) ∷ [] = ap (map (λ j. item.Code 1 j)) (l.code []) ∙ ap (λ j. item.Code 1 (record i { imm = j }) ∷ []) (first_number names i.imm) in
+    subst (λ n. IsProgram (spelling i names) (item.Code 1 (alone i) ∷ []) n) (l.names_are [] ∙ first_name names i.imm) (subst (λ c. IsProgram (spelling i names) c (named [] l.fit.operands.symbol l.fit.operands.imm)) code all)

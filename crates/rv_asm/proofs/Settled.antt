@@ -3,8 +3,8 @@ use Rattle.std.proofs.Common.{◌≡◌, ◌⊎◌, ℕ, subst, inl, inr, None, 
 use Rattle.std.specs.Prelude.{◌&&◌, ◌||◌, is_none}
 use Rattle.std.proofs.lemmas.Bool.Decides.{nat_tests}
 use Rattle.std.proofs.lemmas.List.{append-nil}
-use Rattle.rv_asm.specs.declared.class.Class.{Class}
-use Rattle.rv_asm.specs.declared.class.Class.TheVariants as class
+use Rattle.rv_asm.specs.declared.class.ByteClass.{ByteClass}
+use Rattle.rv_asm.specs.declared.class.ByteClass.TheVariants as class
 use Rattle.rv_asm.specs.Statement.{is_in, skip, begins_in, begins_with, is_empty, is_label_word, is_label, is_assignment, is_directive, is_skipped, more, IsSettled}
 use Rattle.std.specs.declared.option.Option.{Option}
 use Rattle.rv_asm.proofs.Cut.{decided}
@@ -23,11 +23,11 @@ colon_stops = record { blank = refl; digit = refl; start = refl; symbol = refl; 
 pub quote_stops : Stops 34
 quote_stops = record { blank = refl; digit = refl; start = refl; symbol = refl; equals = refl; dot = refl }
 
-skip_append : (c : Class) (front rest : List ℕ) (x : ℕ) → is_in c x ≡ false → skip c (front ++ x ∷ rest) ≡ skip c front ++ x ∷ rest
+skip_append : (c : ByteClass) (front rest : List ℕ) (x : ℕ) → is_in c x ≡ false → skip c (front ++ x ∷ rest) ≡ skip c front ++ x ∷ rest
 skip_append c [] rest x none = rw none refl
 skip_append c (b ∷ bs) rest x none = elim (decided (is_in c b)) [ inl h ↦ rw h (skip_append c bs rest x none) | inr h ↦ rw h refl ]
 
-in_append : (c : Class) (front rest : List ℕ) (x : ℕ) → is_in c x ≡ false → begins_in c (front ++ x ∷ rest) ≡ begins_in c front
+in_append : (c : ByteClass) (front rest : List ℕ) (x : ℕ) → is_in c x ≡ false → begins_in c (front ++ x ∷ rest) ≡ begins_in c front
 in_append c [] rest x none = none
 in_append c (b ∷ bs) rest x none = refl
 
@@ -40,7 +40,7 @@ not_empty [] rest x = grind (arith, nat_tests)
 not_empty (b ∷ bs) rest x = grind (arith, nat_tests)
 
 -- two skips, and the byte still stands there
-twice : (c d : Class) (front rest : List ℕ) (x : ℕ) → is_in c x ≡ false → is_in d x ≡ false → skip d (skip c (front ++ x ∷ rest)) ≡ skip d (skip c front) ++ x ∷ rest
+twice : (c d : ByteClass) (front rest : List ℕ) (x : ℕ) → is_in c x ≡ false → is_in d x ≡ false → skip d (skip c (front ++ x ∷ rest)) ≡ skip d (skip c front) ++ x ∷ rest
 twice c d front rest x hc hd = ap (skip d) (skip_append c front rest x hc) ∙ skip_append d (skip c front) rest x hd
 
 never : (a b : Bool) → (a && false) || (b && false) ≡ false

@@ -8,7 +8,7 @@ use Rattle.std.proofs.lemmas.Bool.Decides.{nat_tests}
 use Rattle.std.proofs.lemmas.Int.{ints}
 use Rattle.rv_isa.specs.declared.op.Op.{Op}
 use Rattle.rv_isa.specs.declared.op.Op.TheVariants as op
-use Rattle.rv_isa.specs.declared.facts.Bounds.{Bounds}
+use Rattle.rv_isa.specs.declared.facts.ImmRange.{ImmRange}
 use Rattle.rv_isa.specs.declared.facts.Form.{Form}
 use Rattle.rv_isa.specs.declared.facts.Form.TheVariants as form
 use Rattle.rv_isa.specs.declared.instr.Imm.{Imm}
@@ -26,8 +26,11 @@ use Rattle.rv_asm.specs.declared.operand.Shape.TheVariants as shape
 use Rattle.rv_asm.specs.Operands.{Operands, no_operands, immediate, offset, accept, accept_all}
 use Rattle.rv_asm.specs.Forms.{Row, Fit, fits, further, or_else, is_named, judged}
 use Rattle.rv_asm.specs.Table.{forms}
-use Rattle.rv_asm.specs.Code.{numbered, named}
-use Rattle.rv_asm.specs.Spelled.{symbols_of, first_symbol, HasSymbol}
+use Rattle.rv_asm.specs.Items.{numbered, named}
+use Rattle.rv_isa.specs.Symbol.{HasSymbolText}
+use Rattle.rv_asm.specs.Symbols.{is_symbolic}
+use Rattle.rv_asm.specs.Spelled.{symbol_in}
+use Rattle.rv_asm.proofs.SymbolsBack.{text_symbolic}
 use Rattle.rv_asm.proofs.Cut.{decided}
 use Rattle.rv_asm.proofs.SpelledNumbers.{size_of}
 use Rattle.rv_asm.proofs.SpelledLine.{IsOperand, IsMnemonic}
@@ -94,25 +97,25 @@ not_compressed _ rest = refl
 
 -- ---- the immediates
 
-abbrev or_none : Option Bounds → Bounds
+abbrev or_none : Option ImmRange → ImmRange
 or_none None = signed_12
 or_none (Some b) = b
 
-abbrev bounds_for : Op → Bounds
-bounds_for o = or_none (facts_of o).bounds
+abbrev bounds_for : Op → ImmRange
+bounds_for o = or_none (facts_of o).range
 
-abbrev is_small : Bounds → Bool
+abbrev is_small : ImmRange → Bool
 is_small b = int_le (neg_ℤ (pos 9223372036854775808)) b.low && int_le b.high (pos 9223372036854775808)
 
 small_bounds : (o : Op) → is_small (bounds_for o) ≡ true
 small_bounds op.Lui = refl
 small_bounds _ = refl
 
-small_number : (b : Bounds) (n : ℤ) → is_small b ≡ true → is_within b n ≡ true → size_of n < 2 ^ 64
+small_number : (b : ImmRange) (n : ℤ) → is_small b ≡ true → is_within b n ≡ true → size_of n < 2 ^ 64
 small_number b (pos n) small within = grind (arith, nat_tests, ints)
 small_number b (negsuc n) small within = grind (arith, nat_tests, ints)
 
-within_bounds : (o : Option Bounds) (n : ℤ) → is_lawful_number o n ≡ true → is_within (or_none o) n ≡ true
+within_bounds : (o : Option ImmRange) (n : ℤ) → is_lawful_number o n ≡ true → is_within (or_none o) n ≡ true
 within_bounds None n h = absurd cc
 within_bounds (Some b) n h = h
 
@@ -135,21 +138,23 @@ with_imm names (imm.Value n) p = record p { imm = imm.Value n }
 with_imm names imm.None p = p
 
 -- an immediate that its opcode takes is an operand, and is read as itself
-record ReadsImm (b : Bounds) (names : List (List ℕ)) (j : Imm) : Type 0 where
+record ReadsImm (b : ImmRange) (names : List (List ℕ)) (j : Imm) : Type 0 where
   operand : IsOperand (imm_of names j)
   read : (p : Operands) → immediate b (imm_of names j) p ≡ Some (with_imm names j p)
 
-reads_imm : (o : Op) (names : List (List ℕ)) (j : Imm) → is_some (facts_of o).bounds ≡ true → is_lawful_imm o j ≡ true → HasSymbol names j → ReadsImm (bounds_for o) names j
-reads_imm o names imm.None there lawful symbol = absurd (none_there (is_some (facts_of o).bounds) there lawful)
+reads_imm : (o : Op) (names : List (List ℕ)) (j : Imm) → is_some (facts_of o).range ≡ true → is_lawful_imm o j ≡ true → HasSymbolText names j → ReadsImm (bounds_for o) names j
+reads_imm o names imm.None there lawful symbol = absurd (none_there (is_some (facts_of o).range) there lawful)
   where
     none_there : (t : Bool) → t ≡ true → not t ≡ true → ⊥
     none_there true h g = cc
     none_there false h g = cc
 reads_imm o names (imm.Value n) there lawful symbol =
-    let within : is_within (bounds_for o) n ≡ true = within_bounds (facts_of o).bounds n lawful in
+    let within : is_within (bounds_for o) n ≡ true = within_bounds (facts_of o).range n lawful in
     let small : size_of n < 2 ^ 64 = small_number (bounds_for o) n (small_bounds o) within in
     record { operand = number_operand n small; read = λ p. number_read (bounds_for o) n p small within }
-reads_imm o names (imm.Symbol k) there lawful symbol = record { operand = symbol_operand (slice_index_or names k []) symbol; read = λ p. symbol_read (bounds_for o) (slice_index_or names k []) p symbol }
+reads_imm o names (imm.Symbol k) there lawful symbol =
+    let is : is_symbolic (slice_index_or names k []) ≡ true = text_symbolic (slice_index_or names k []) symbol in
+    record { operand = symbol_operand (slice_index_or names k []) is; read = λ p. symbol_read (bounds_for o) (slice_index_or names k []) p is }
 
 -- ---- the forms
 
@@ -162,8 +167,8 @@ pub record ReadsAll (i : Instr) (names : List (List ℕ)) (f : Form) : Type 0 wh
   pub rd : read.rd ≡ i.rd
   pub rs1 : read.rs1 ≡ i.rs1
   pub rs2 : read.rs2 ≡ i.rs2
-  pub imm_is : numbered [] read.symbol read.imm ≡ first_symbol i.imm
-  pub named_is : named [] read.symbol read.imm ≡ symbols_of names i.imm
+  pub imm_is : (before : List (List ℕ)) → numbered before read.symbol read.imm ≡ numbered before (symbol_in names i.imm) i.imm
+  pub named_is : (before : List (List ℕ)) → named before read.symbol read.imm ≡ named before (symbol_in names i.imm) i.imm
 
 low_register : (there : Bool) (r : ℕ) → is_lawful_register there r ≡ true → r < 32
 low_register true r h = grind (arith, nat_tests, h)
@@ -178,13 +183,13 @@ record Adds (names : List (List ℕ)) (j : Imm) (p q : Operands) : Type 0 where
   rd : q.rd ≡ p.rd
   rs1 : q.rs1 ≡ p.rs1
   rs2 : q.rs2 ≡ p.rs2
-  imm_is : numbered [] q.symbol q.imm ≡ first_symbol j
-  named_is : named [] q.symbol q.imm ≡ symbols_of names j
+  imm_is : (before : List (List ℕ)) → numbered before q.symbol q.imm ≡ numbered before (symbol_in names j) j
+  named_is : (before : List (List ℕ)) → named before q.symbol q.imm ≡ named before (symbol_in names j) j
 
 adds : (names : List (List ℕ)) (j : Imm) (p : Operands) → p.imm ≡ imm.None → Adds names j p (with_imm names j p)
-adds names imm.None p e = record { within = refl; rd = refl; rs1 = refl; rs2 = refl; imm_is = ap (numbered [] p.symbol) e; named_is = ap (named [] p.symbol) e }
-adds names (imm.Value n) p e = record { within = refl; rd = refl; rs1 = refl; rs2 = refl; imm_is = refl; named_is = refl }
-adds names (imm.Symbol k) p e = record { within = refl; rd = refl; rs1 = refl; rs2 = refl; imm_is = refl; named_is = refl }
+adds names imm.None p e = record { within = refl; rd = refl; rs1 = refl; rs2 = refl; imm_is = λ before. ap (numbered before p.symbol) e; named_is = λ before. ap (named before p.symbol) e }
+adds names (imm.Value n) p e = record { within = refl; rd = refl; rs1 = refl; rs2 = refl; imm_is = λ before. refl; named_is = λ before. refl }
+adds names (imm.Symbol k) p e = record { within = refl; rd = refl; rs1 = refl; rs2 = refl; imm_is = λ before. refl; named_is = λ before. refl }
 
 abbrev three_of : ℕ → ℕ → ℕ → Operands
 three_of d s t = record { rd = d; rs1 = s; rs2 = t; imm = imm.None; symbol = []; pred = 0; beyond = false }
@@ -277,12 +282,12 @@ rd_rs1_rs2 i names none rd rs1 rs2 =
       rd = refl;
       rs1 = refl;
       rs2 = refl;
-      imm_is = ap first_symbol (sym none);
-      named_is = ap (symbols_of names) (sym none);
+      imm_is = λ before. ap (λ j. numbered before (symbol_in names j) j) (sym none);
+      named_is = λ before. ap (λ j. named before (symbol_in names j) j) (sym none);
     }
 
 nothing : (i : Instr) (names : List (List ℕ)) → i.imm ≡ imm.None → 0 ≡ i.rd → 0 ≡ i.rs1 → 0 ≡ i.rs2 → ReadsAll i names form.Nothing
-nothing i names none rd rs1 rs2 = record { all = tt; read = no_operands; is_read = refl; count = refl; within = refl; rd = rd; rs1 = rs1; rs2 = rs2; imm_is = ap first_symbol (sym none); named_is = ap (symbols_of names) (sym none) }
+nothing i names none rd rs1 rs2 = record { all = tt; read = no_operands; is_read = refl; count = refl; within = refl; rd = rd; rs1 = rs1; rs2 = rs2; imm_is = λ before. ap (λ j. numbered before (symbol_in names j) j) (sym none); named_is = λ before. ap (λ j. named before (symbol_in names j) j) (sym none) }
 
 offset_takes : (i : Instr) (names : List (List ℕ)) (p : Operands) → ReadsImm signed_12 names i.imm → i.rs1 < 32 → accept shape.Offset (offset_of names i) p ≡ Some (with_imm names i.imm (record p { rs1 = i.rs1 }))
 offset_takes i names p r rs1 = ap (λ t. offset t p) (offset_is names i) ∙ offset_read (imm_of names i.imm) i.rs1 p (with_imm names i.imm (record p { rs1 = i.rs1 })) rs1 r.operand (r.read (record p { rs1 = i.rs1 }))
@@ -347,34 +352,34 @@ two_sets i names n e lt rd rs1 rs2 =
       rd = rd;
       rs1 = rs1;
       rs2 = rs2;
-      imm_is = ap (λ k. imm.Value (pos k)) sum ∙ ap first_symbol (sym e);
-      named_is = ap (symbols_of names) (sym e);
+      imm_is = λ before. ap (λ k. imm.Value (pos k)) sum ∙ ap (λ j. numbered before (symbol_in names j) j) (sym e);
+      named_is = λ before. ap (λ j. named before (symbol_in names j) j) (sym e);
     }
 
 -- ---- any instruction
 
-no_bounds : (o : Op) → (facts_of o).form ≡ form.RdRs1Rs2 → (facts_of o).bounds ≡ None
+no_bounds : (o : Op) → (facts_of o).form ≡ form.RdRs1Rs2 → (facts_of o).range ≡ None
 no_bounds op.Lui e = cc
 no_bounds _ e = cc
 
-nothing_bounds : (o : Op) → (facts_of o).form ≡ form.Nothing → (facts_of o).bounds ≡ None
+nothing_bounds : (o : Op) → (facts_of o).form ≡ form.Nothing → (facts_of o).range ≡ None
 nothing_bounds op.Lui e = cc
 nothing_bounds _ e = cc
 
-sets_bounds : (o : Op) → (facts_of o).form ≡ form.Sets → (facts_of o).bounds ≡ Some sets
+sets_bounds : (o : Op) → (facts_of o).form ≡ form.Sets → (facts_of o).range ≡ Some sets
 sets_bounds op.Lui e = cc
 sets_bounds _ e = cc
 
-some_bounds : (o : Op) → takes_symbol (facts_of o).form ≡ true → is_some (facts_of o).bounds ≡ true
+some_bounds : (o : Op) → takes_symbol (facts_of o).form ≡ true → is_some (facts_of o).range ≡ true
 some_bounds op.Lui h = refl
 some_bounds _ h = cc
 
-imm_none : (o : Op) (j : Imm) → (facts_of o).bounds ≡ None → takes_symbol (facts_of o).form ≡ false → is_lawful_imm o j ≡ true → j ≡ imm.None
+imm_none : (o : Op) (j : Imm) → (facts_of o).range ≡ None → takes_symbol (facts_of o).form ≡ false → is_lawful_imm o j ≡ true → j ≡ imm.None
 imm_none o imm.None b s h = refl
 imm_none o (imm.Value n) b s h = absurd (let no : false ≡ true = ap (λ x. is_lawful_number x n) (sym b) ∙ h in cc)
 imm_none o (imm.Symbol k) b s h = absurd (let no : false ≡ true = sym s ∙ h in cc)
 
-sets_value : (o : Op) (j : Imm) → (facts_of o).bounds ≡ Some sets → takes_symbol (facts_of o).form ≡ false → is_lawful_imm o j ≡ true → (n : ℕ) × (j ≡ imm.Value (pos n)) × (n < 256)
+sets_value : (o : Op) (j : Imm) → (facts_of o).range ≡ Some sets → takes_symbol (facts_of o).form ≡ false → is_lawful_imm o j ≡ true → (n : ℕ) × (j ≡ imm.Value (pos n)) × (n < 256)
 sets_value o imm.None b s h = absurd (let no : false ≡ true = ap (λ x. not (is_some x)) (sym b) ∙ h in cc)
 sets_value o (imm.Value (pos n)) b s h = (n, refl, (let there : is_within sets (pos n) ≡ true = ap (λ x. is_lawful_number x (pos n)) (sym b) ∙ h in grind (arith, nat_tests, ints, there)))
 sets_value o (imm.Value (negsuc n)) b s h = absurd (let no : is_within sets (negsuc n) ≡ true = ap (λ x. is_lawful_number x (negsuc n)) (sym b) ∙ h in grind (arith, nat_tests, ints, no))
@@ -397,7 +402,7 @@ by_form i names form.Sets e d s t h r =
     two_sets i names n.0 n.1 n.2 (no_register i.rd d) (no_register i.rs1 s) (no_register i.rs2 t)
 by_form i names form.Nothing e d s t h r = nothing i names (imm_none i.op i.imm (nothing_bounds i.op e) (ap takes_symbol e) h) (no_register i.rd d) (no_register i.rs1 s) (no_register i.rs2 t)
 
-pub reads_all : (i : Instr) (names : List (List ℕ)) → is_lawful i ≡ true → HasSymbol names i.imm → ReadsAll i names (facts_of i.op).form
+pub reads_all : (i : Instr) (names : List (List ℕ)) → is_lawful i ≡ true → HasSymbolText names i.imm → ReadsAll i names (facts_of i.op).form
 reads_all i names h symbol =
     let f : Form = (facts_of i.op).form in
     let a : Bool = is_lawful_register (has_rd f) i.rd in

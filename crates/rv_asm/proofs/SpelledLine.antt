@@ -9,7 +9,7 @@ use Rattle.std.proofs.lemmas.List.Folds.{length-prefix_len}
 use Rattle.std.proofs.lemmas.List.Sums.{suffix_len_is}
 use Rattle.std.proofs.Math.Seq.{take-append_seam, drop-append_seam}
 use Rattle.rv_isa.specs.Spelling.{behind as behind_each}
-use Rattle.rv_asm.specs.declared.class.Class.TheVariants as class
+use Rattle.rv_asm.specs.declared.class.ByteClass.TheVariants as class
 use Rattle.rv_asm.specs.Statement.{is_in, skip, trailing, begins_in, begins_with, is_empty, is_assignment}
 use Rattle.rv_asm.specs.Operands.{with_front, separates_at, depth_after, between_commas, front_of, trimmed, operands_in}
 use Rattle.rv_asm.specs.Forms.{Fit, map_ok}

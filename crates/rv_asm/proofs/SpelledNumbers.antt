@@ -61,7 +61,7 @@ spelled : (n : ℕ) → n < 2 ^ 64 → IsSpelled n (decimal n)
 spelled n lt = decimal_by_steps IsSpelled spelled_one spelled_more n lt
 
 -- digits that begin with no 0 are read in base 10
-ten_size : (b : ℕ) (bs : List ℕ) → nat_eq b 48 ≡ false → size_at (b ∷ bs) ≡ value_from 10 0 (b ∷ bs)
+pub ten_size : (b : ℕ) (bs : List ℕ) → nat_eq b 48 ≡ false → size_at (b ∷ bs) ≡ value_from 10 0 (b ∷ bs)
 ten_size b [] h = rw h refl
 ten_size b (c ∷ cs) h = rw h refl
 

@@ -6,18 +6,18 @@ use Rattle.std.specs.Fmt.{decimal, signed_decimal}
 use Rattle.std.specs.declared.option.Option.{Option}
 use Rattle.std.proofs.lemmas.Bool.Decides.{nat_tests}
 use Rattle.std.proofs.Math.Seq.{take-append_seam, drop-append_seam}
-use Rattle.rv_isa.specs.declared.facts.Bounds.{Bounds}
+use Rattle.rv_isa.specs.declared.facts.ImmRange.{ImmRange}
 use Rattle.rv_isa.specs.declared.instr.Imm.TheVariants as imm
 use Rattle.rv_isa.specs.Instruction.{is_within}
 use Rattle.rv_isa.specs.Opcodes.{signed_12}
 use Rattle.rv_isa.specs.Registers.{name_of, place_from, register_named}
-use Rattle.rv_isa.specs.Spelling.{set_of}
+use Rattle.rv_isa.specs.Spelling.{set_names, set_of}
 use Rattle.rv_isa.proofs.Below.{below_passes}
 use Rattle.rv_isa.proofs.Names.{register_named-name_of}
-use Rattle.rv_asm.specs.declared.class.Class.TheVariants as class
+use Rattle.rv_asm.specs.declared.class.ByteClass.TheVariants as class
 use Rattle.rv_asm.specs.Statement.{is_in, is_digit, is_empty}
 use Rattle.rv_asm.specs.Symbols.{is_symbolic}
-use Rattle.rv_asm.specs.Operands.{Operands, symbolic, number_or_symbol, immediate, displacement, last_open, based, offset, set_names}
+use Rattle.rv_asm.specs.Operands.{Operands, symbolic, number_or_symbol, immediate, displacement, last_open, based, offset}
 use Rattle.rv_asm.proofs.Cut.{decided}
 use Rattle.rv_asm.proofs.OneLine.{tame}
 use Rattle.rv_asm.proofs.SpelledNumbers.{size_of, number_spelled, decimal_digits, decimal_first}
@@ -82,10 +82,10 @@ number_operand (negsuc n) lt = flat_operand 45 (decimal (suc n)) (refl, decimal_
 
 -- ---- immediates
 
-pub number_read : (b : Bounds) (z : ℤ) (p : Operands) → size_of z < 2 ^ 64 → is_within b z ≡ true → immediate b (signed_decimal z) p ≡ Some (record p { imm = imm.Value z })
+pub number_read : (b : ImmRange) (z : ℤ) (p : Operands) → size_of z < 2 ^ 64 → is_within b z ≡ true → immediate b (signed_decimal z) p ≡ Some (record p { imm = imm.Value z })
 number_read b z p lt h = ap (number_or_symbol b (signed_decimal z) p) (number_spelled z lt) ∙ (rw h refl)
 
-pub symbol_read : (b : Bounds) (text : List ℕ) (p : Operands) → is_symbolic text ≡ true → immediate b text p ≡ Some (record p { imm = imm.Symbol 0; symbol = text })
+pub symbol_read : (b : ImmRange) (text : List ℕ) (p : Operands) → is_symbolic text ≡ true → immediate b text p ≡ Some (record p { imm = imm.Symbol 0; symbol = text })
 symbol_read b text p h = ap (number_or_symbol b text p) (symbol_number text h) ∙ (rw h refl)
 
 pub alone_read : (text : List ℕ) (p : Operands) → is_symbolic text ≡ true → symbolic text p ≡ Some (record p { imm = imm.Symbol 0; symbol = text })

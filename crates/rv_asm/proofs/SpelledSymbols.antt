@@ -9,8 +9,8 @@ use Rattle.std.proofs.lemmas.List.{append-nil, take-append-drop, length-drop, ta
 use Rattle.std.proofs.lemmas.List.Folds.{length-prefix_len}
 use Rattle.std.proofs.lemmas.List.Sums.{suffix_len-take_no, suffix_len-take_yes, suffix_len-le-length}
 use Rattle.rv_isa.specs.Registers.{register_named}
-use Rattle.rv_asm.specs.declared.class.Class.{Class}
-use Rattle.rv_asm.specs.declared.class.Class.TheVariants as class
+use Rattle.rv_asm.specs.declared.class.ByteClass.{ByteClass}
+use Rattle.rv_asm.specs.declared.class.ByteClass.TheVariants as class
 use Rattle.rv_asm.specs.Statement.{is_in, skip, trailing, begins_in, begins_with, is_empty, begins_symbol, is_digit}
 use Rattle.rv_asm.specs.Pieces.{begins}
 use Rattle.rv_asm.specs.Numbers.{digit_of, value_from, size_at, number_at}
@@ -24,11 +24,11 @@ use Rattle.std.specs.Option.{option_map}
 
 -- ---- texts of one class
 
-both : (a b : Bool) → a && b ≡ true → (a ≡ true) × (b ≡ true)
+pub both : (a b : Bool) → a && b ≡ true → (a ≡ true) × (b ≡ true)
 both true b h = (refl, h)
 both false b h = absurd cc
 
-skip_split : (c : Class) (text : List ℕ) → (front : List ℕ) × (text ≡ front ++ skip c text) × AllByRecursion (λ b. is_in c b ≡ true) front
+pub skip_split : (c : ByteClass) (text : List ℕ) → (front : List ℕ) × (text ≡ front ++ skip c text) × AllByRecursion (λ b. is_in c b ≡ true) front
 skip_split c [] = ([], refl, tt)
 skip_split c (b ∷ bs) = elim (decided (is_in c b)) as (λ _. (front : List ℕ) × (b ∷ bs ≡ front ++ skip c (b ∷ bs)) × AllByRecursion (λ x. is_in c x ≡ true) front) [
   | inl h ↦ (let more : (front : List ℕ) × (bs ≡ front ++ skip c bs) × AllByRecursion (λ x. is_in c x ≡ true) front = skip_split c bs in
@@ -45,7 +45,7 @@ all_weaker : (P Q : ℕ → Type 0) → ((b : ℕ) → P b → Q b) → (text : 
 all_weaker P Q h [] all = tt
 all_weaker P Q h (b ∷ bs) all = (h b all.0, all_weaker P Q h bs all.1)
 
-empty_is : (text : List ℕ) → is_empty text ≡ true → text ≡ []
+pub empty_is : (text : List ℕ) → is_empty text ≡ true → text ≡ []
 empty_is [] h = refl
 empty_is (b ∷ bs) h = absurd (grind (arith, nat_tests, h))
 
@@ -87,7 +87,7 @@ record Opens (k : ℕ) (text : List ℕ) : Type 0 where
 word_operand : (b : ℕ) → is_in class.Word b ≡ true → is_in class.Operand b ≡ true
 word_operand b h = grind (arith, nat_tests, h)
 
-begins_is : (a : ℕ) (text : List ℕ) → begins_with a text ≡ true → text ≡ a ∷ drop 1 text
+pub begins_is : (a : ℕ) (text : List ℕ) → begins_with a text ≡ true → text ≡ a ∷ drop 1 text
 begins_is a [] h = absurd cc
 begins_is a (b ∷ bs) h = let same : b ≡ a = grind (arith, nat_tests, h) in λ i. same i ∷ bs
 
@@ -182,7 +182,7 @@ all_close (b ∷ bs) d all = ap (λ x. depth_over (depth_after d x) bs) all.0 �
 abbrev pub trailing_close : List ℕ → ℕ
 trailing_close text = trailing class.Close text
 
-split_off : (text : List ℕ) → AllByRecursion (λ b. b ≡ 41) (drop (length text - trailing_close text) text) × (trailing_close text ≤ length text)
+pub split_off : (text : List ℕ) → AllByRecursion (λ b. b ≡ 41) (drop (length text - trailing_close text) text) × (trailing_close text ≤ length text)
 split_off text =
     let is : trailing_close text ≡ suffix_len (is_in class.Close) text = length-prefix_len (is_in class.Close) (reverse text) in
     let within : suffix_len (is_in class.Close) text ≤ length text = suffix_len-le-length (is_in class.Close) text in
@@ -257,7 +257,7 @@ local_inner (d ∷ c ∷ cs) x all some in_ h1 h2 h3 ten eight = record {
   number = number_unsigned d (c ∷ cs ++ x ∷ []) all.0 ∙ ap (option_map pos) (more_none d c cs x all.1.0 ten eight);
 }
 
-either_true : (a b : Bool) → a || b ≡ true → (a ≡ true) ⊎ (b ≡ true)
+pub either_true : (a b : Bool) → a || b ≡ true → (a ≡ true) ⊎ (b ≡ true)
 either_true true b h = inl refl
 either_true false b h = inr h
 
@@ -272,9 +272,24 @@ plain_inner (b ∷ bs) h =
     let whole : b ∷ bs ≡ split.0 = split.1 ∙ ap (λ t. split.0 ++ t) (empty_is (skip class.Operand (b ∷ bs)) three.1) ∙ append-nil split.0 in
     record { all = subst (AllByRecursion (λ x. is_in class.Operand x ≡ true)) (sym whole) split.2; some = omega arith; number = start_number b bs three.0 }
 
-some_front : (text front rest : List ℕ) → text ≡ front ++ rest → begins_in class.Digit text ≡ true → skip class.Digit text ≡ rest → begins_in class.Digit rest ≡ false → 0 < length front
+pub some_front : (text front rest : List ℕ) → text ≡ front ++ rest → begins_in class.Digit text ≡ true → skip class.Digit text ≡ rest → begins_in class.Digit rest ≡ false → 0 < length front
 some_front text [] rest e h s none = absurd (let no : true ≡ false = sym h ∙ ap (begins_in class.Digit) e ∙ none in cc)
 some_front text (b ∷ bs) rest e h s none = omega arith
+
+-- the digits of a label, and the byte behind them
+pub inner_of : (text : List ℕ) → is_local text ≡ true → (ds : List ℕ) × (b : ℕ) × (text ≡ ds ++ b ∷ []) × AllByRecursion (λ x. is_in class.Digit x ≡ true) ds × (0 < length ds) × (nat_eq b 98 || nat_eq b 102 ≡ true)
+inner_of text h =
+    let two : (begins_in class.Digit text ≡ true) × (pointwise nat_eq (skip class.Digit text) (codes "b") || pointwise nat_eq (skip class.Digit text) (codes "f") ≡ true) =
+    both (begins_in class.Digit text) (pointwise nat_eq (skip class.Digit text) (codes "b") || pointwise nat_eq (skip class.Digit text) (codes "f")) h in
+    let split : (front : List ℕ) × (text ≡ front ++ skip class.Digit text) × AllByRecursion (λ x. is_digit x ≡ true) front = skip_split class.Digit text in
+    elim (either_true (pointwise nat_eq (skip class.Digit text) (codes "b")) (pointwise nat_eq (skip class.Digit text) (codes "f")) two.1) [
+      | inl g ↦ (let end : skip class.Digit text ≡ 98 ∷ [] = same_text (skip class.Digit text) (98 ∷ []) (sym g) in
+          let whole : text ≡ split.0 ++ 98 ∷ [] = split.1 ∙ ap (λ t. split.0 ++ t) end in
+          (split.0, 98, whole, split.2, some_front text split.0 (98 ∷ []) whole two.0 end refl, refl))
+      | inr g ↦ (let end : skip class.Digit text ≡ 102 ∷ [] = same_text (skip class.Digit text) (102 ∷ []) (sym g) in
+          let whole : text ≡ split.0 ++ 102 ∷ [] = split.1 ∙ ap (λ t. split.0 ++ t) end in
+          (split.0, 102, whole, split.2, some_front text split.0 (102 ∷ []) whole two.0 end refl, refl))
+    ]
 
 local_is : (text : List ℕ) → is_local text ≡ true → IsInner text
 local_is text h =

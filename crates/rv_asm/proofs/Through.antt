@@ -2,8 +2,8 @@
 use Rattle.std.proofs.Common.{◌≡◌, ℕ, ◌<◌, List, [], ◌∷◌, ◌++◌, take, drop, length, sym, refl, ◌∙◌, ap, subst, Bool, true, false}
 use Rattle.std.specs.Prelude.{◌&&◌, if◌then◌else◌}
 use Rattle.std.proofs.lemmas.List.{take-append-drop}
-use Rattle.rv_asm.specs.declared.kind.Kind.{Kind}
-use Rattle.rv_asm.specs.declared.kind.Kind.TheVariants as kind
+use Rattle.rv_asm.specs.declared.pieces.PieceKind.{PieceKind}
+use Rattle.rv_asm.specs.declared.pieces.PieceKind.TheVariants as kind
 use Rattle.rv_asm.specs.Statement.{begins_with, takes_strings}
 use Rattle.rv_asm.specs.Pieces.{after as kept_after, Piece, kind_at, begins, is_return, IsPiece, joined, ArePieces, IsCut}
 use Rattle.rv_asm.specs.Extents.{len_of}
@@ -31,7 +31,7 @@ same_kind q text i =
 abbrev pub GoesOn : List ℕ → Known → List ℕ → Type 0
 GoesOn text s rest = (more : List Piece) → ArePieces s.text more → joined more ≡ rest → (pieces : List Piece) × IsCut text pieces × (run s more ≡ run start pieces)
 
-pub goes_one : (text : List ℕ) (s t : Known) (rest : List ℕ) (asks : Bool) (k : Kind) (n : ℕ) (front after : List ℕ) → 0 < length rest
+pub goes_one : (text : List ℕ) (s t : Known) (rest : List ℕ) (asks : Bool) (k : PieceKind) (n : ℕ) (front after : List ℕ) → 0 < length rest
     → asks ≡ begins_with 34 rest && takes_strings s.text
     → k ≡ kind_at asks rest → n ≡ len_of k rest → front ≡ take n rest → after ≡ drop n rest → t ≡ step s (record { kind = k; bytes = front })
     → GoesOn text s rest → GoesOn text t after

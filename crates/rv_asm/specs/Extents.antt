@@ -1,7 +1,7 @@
 -- where a piece ends, as a place that is counted from its first byte
 use Rattle.std.specs.Prelude.{ℕ, ◌+◌, List, [], ◌∷◌, length, drop, nat_eq, count_by, Option, Some, None, if◌then◌else◌}
-use Rattle.rv_asm.specs.declared.kind.Kind.{Kind}
-use Rattle.rv_asm.specs.declared.kind.Kind.TheVariants as kind
+use Rattle.rv_asm.specs.declared.pieces.PieceKind.{PieceKind}
+use Rattle.rv_asm.specs.declared.pieces.PieceKind.TheVariants as kind
 use Rattle.rv_asm.specs.Pieces.{begins, closes}
 
 -- the place of the first line feed, or the end
@@ -25,7 +25,7 @@ or_end text None = length text
 or_end text (Some k) = k + 2
 
 -- the length of the piece of a kind at the front of a text
-abbrev pub len_of : Kind → List ℕ → ℕ
+abbrev pub len_of : PieceKind → List ℕ → ℕ
 len_of kind.Line text = feed_from 0 text
 len_of kind.Block text = or_end text (close_from 0 (drop 2 text))
 len_of kind.Quoted text = quote_from 0 34 (drop 1 text) + 1

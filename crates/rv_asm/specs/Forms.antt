@@ -3,7 +3,7 @@ use Rattle.std.specs.Prelude.{ℕ, List, [], ◌∷◌, length, nat_eq, nat_lt, 
 use Rattle.std.specs.Cmp.Lexicographic.{pointwise}
 use Rattle.rv_asm.specs.declared.fault.Cause.{Cause}
 use Rattle.rv_asm.specs.declared.fault.Cause.TheVariants as cause
-use Rattle.rv_asm.specs.declared.form.Form.{Form}
+use Rattle.rv_asm.specs.declared.form.MnemonicForm.{MnemonicForm}
 use Rattle.rv_asm.specs.declared.form.Makes.{Makes}
 use Rattle.rv_asm.specs.declared.form.Made.{Made}
 use Rattle.rv_asm.specs.declared.operand.Shape.{Shape}
@@ -19,7 +19,7 @@ pub record Row : Type 0 where
   pub shapes : List Shape
   pub makes : Makes
 
-abbrev pub row_of : Form → Row
+abbrev pub row_of : MnemonicForm → Row
 row_of f = record { mnemonic = f.mnemonic.now; shapes = f.shapes.now; makes = f.makes }
 
 -- a form that fits, and what its operands come to

@@ -7,8 +7,8 @@ use Rattle.rv_asm.specs.declared.item.Item.{Item}
 use Rattle.rv_asm.specs.declared.item.Item.TheVariants as item
 use Rattle.rv_asm.specs.declared.listing.ItemRef.{ItemRef}
 use Rattle.rv_asm.specs.declared.listing.ItemRef.TheVariants as ref
-use Rattle.rv_asm.specs.declared.listing.Kept.{Kept}
-use Rattle.rv_asm.specs.declared.listing.Kept.TheVariants as kept
+use Rattle.rv_asm.specs.declared.listing.ShortItem.{ShortItem}
+use Rattle.rv_asm.specs.declared.listing.ShortItem.TheVariants as kept
 use Rattle.rv_asm.specs.declared.listing.Stem.{Stem}
 
 -- the item that is lent
@@ -22,14 +22,14 @@ abbrev pub with_imm : Stem → Imm → Item
 with_imm s i = item.Code s.line (record { op = s.op; rd = s.rd; rs1 = s.rs1; rs2 = s.rs2; imm = i })
 
 -- the item that is kept so, where these are kept aside
-abbrev pub kept_item : List Item → Kept → Item
+abbrev pub kept_item : List Item → ShortItem → Item
 kept_item aside (kept.Plain s) = with_imm s imm.None
 kept_item aside (kept.Number s n) = with_imm s (imm.Value n)
 kept_item aside (kept.Symbol s n) = with_imm s (imm.Symbol n)
 kept_item aside (kept.Aside place) = get_or aside place (item.End 0 [])
 
 -- what is kept aside stands there
-abbrev pub IsWithin : List Item → Kept → Type 0
+abbrev pub IsWithin : List Item → ShortItem → Type 0
 IsWithin aside (kept.Plain s) = Unit {0}
 IsWithin aside (kept.Number s n) = Unit {0}
 IsWithin aside (kept.Symbol s n) = Unit {0}

@@ -1,7 +1,7 @@
 -- comments to the end of a line: those that mark regions, and those that are refused
 use Rattle.std.specs.Prelude.{ℕ, ◌-◌, List, [], ◌∷◌, length, take, drop, nat_eq, slice_index, Bool, ◌&&◌, ◌||◌, if◌then◌else◌, codes}
 use Rattle.std.specs.List.{starts_with}
-use Rattle.rv_asm.specs.declared.class.Class.TheVariants as class
+use Rattle.rv_asm.specs.declared.class.ByteClass.TheVariants as class
 use Rattle.rv_asm.specs.declared.mark.Remark.{Remark}
 use Rattle.rv_asm.specs.declared.mark.Remark.TheVariants as remark
 use Rattle.rv_asm.specs.declared.item.Item.{Item}

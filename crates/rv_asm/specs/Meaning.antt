@@ -2,7 +2,7 @@
 use Rattle.std.specs.Prelude.{ℕ, ◌+◌, List, [], ◌∷◌, take, drop, nat_eq, Bool, ◌||◌, Option, Some, None, Result, Ok, Err, if◌then◌else◌, codes}
 use Rattle.std.specs.List.{list_any, starts_with}
 use Rattle.std.specs.Cmp.Lexicographic.{pointwise}
-use Rattle.rv_asm.specs.declared.class.Class.TheVariants as class
+use Rattle.rv_asm.specs.declared.class.ByteClass.TheVariants as class
 use Rattle.rv_asm.specs.declared.fault.Cause.{Cause}
 use Rattle.rv_asm.specs.declared.fault.Cause.TheVariants as cause
 use Rattle.rv_asm.specs.Statement.{is_in, skip, is_empty, is_assignment, is_directive}

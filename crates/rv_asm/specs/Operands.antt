@@ -2,13 +2,14 @@
 use Rattle.std.specs.Prelude.{ℕ, ℤ, pos, neg_ℤ, int_le, int_lt, ◌+◌, ◌-ℤ◌, ◌-◌, ◌*◌, ◌^◌, List, [], ◌∷◌, ◌++◌, length, take, drop, map, nat_eq, Bool, true, false, ◌&&◌, Option, Some, None, option_and_then, if◌then◌else◌, codes}
 use Rattle.std.specs.List.{starts_with, ends_with}
 use Rattle.std.specs.Option.{option_map}
-use Rattle.rv_isa.specs.declared.facts.Bounds.{Bounds}
+use Rattle.rv_isa.specs.declared.facts.ImmRange.{ImmRange}
 use Rattle.rv_isa.specs.declared.instr.Imm.{Imm}
 use Rattle.rv_isa.specs.declared.instr.Imm.TheVariants as imm
 use Rattle.rv_isa.specs.Instruction.{is_within}
 use Rattle.rv_isa.specs.Opcodes.{upper, signed_12, shift_64, shift_32, jump, branch}
 use Rattle.rv_isa.specs.Registers.{place_from, register_named}
-use Rattle.rv_asm.specs.declared.class.Class.TheVariants as class
+use Rattle.rv_isa.specs.Spelling.{set_names}
+use Rattle.rv_asm.specs.declared.class.ByteClass.TheVariants as class
 use Rattle.rv_asm.specs.declared.operand.Parts.{Parts}
 use Rattle.rv_asm.specs.declared.operand.Shape.{Shape}
 use Rattle.rv_asm.specs.declared.operand.Shape.TheVariants as shape
@@ -69,12 +70,12 @@ symbolic text p = if is_symbolic text then Some (record p { imm = imm.Symbol 0; 
 abbrev pub ranged : Bool → ℤ → Operands → Operands
 ranged within n p = if within then record p { imm = imm.Value n } else record p { beyond = true }
 
-abbrev pub number_or_symbol : Bounds → List ℕ → Operands → Option ℤ → Option Operands
+abbrev pub number_or_symbol : ImmRange → List ℕ → Operands → Option ℤ → Option Operands
 number_or_symbol b text p None = symbolic text p
 number_or_symbol b text p (Some n) = Some (ranged (is_within b n) n p)
 
 -- a number, or a symbol
-abbrev pub immediate : Bounds → List ℕ → Operands → Option Operands
+abbrev pub immediate : ImmRange → List ℕ → Operands → Option Operands
 immediate b text p = number_or_symbol b text p (number_at text)
 
 -- an offset may be left out, and is then 0
@@ -104,10 +105,6 @@ wrapped n = if int_lt n (pos (2 ^ 63)) then n else n -ℤ pos (2 ^ 64)
 
 abbrev pub wide : List ℕ → Operands → Option Operands
 wide text p = option_map (λ n. ranged (is_wide n) (wrapped n) p) (number_at text)
-
--- the sets of the letters i, o, r and w, each at the number that counts them as 8, 4, 2 and 1
-abbrev pub set_names : List (List ℕ)
-set_names = codes "0" ∷ codes "w" ∷ codes "r" ∷ codes "rw" ∷ codes "o" ∷ codes "ow" ∷ codes "or" ∷ codes "orw" ∷ codes "i" ∷ codes "iw" ∷ codes "ir" ∷ codes "irw" ∷ codes "io" ∷ codes "iow" ∷ codes "ior" ∷ codes "iorw" ∷ []
 
 -- what the operands come to with one more, where it may be that
 abbrev pub accept : Shape → List ℕ → Operands → Option Operands

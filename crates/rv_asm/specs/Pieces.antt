@@ -1,12 +1,12 @@
 -- the lawful cut of an assembly text into pieces
 use Rattle.std.specs.Prelude.{◌≡◌, ◌≢◌, ℕ, ◌⊎◌, List, [], ◌∷◌, ◌++◌, length, nat_eq, Bool, true, false, ◌&&◌, ◌||◌, not, if◌then◌else◌}
 use Rattle.std.specs.List.{AllByRecursion}
-use Rattle.rv_asm.specs.declared.kind.Kind.{Kind}
-use Rattle.rv_asm.specs.declared.kind.Kind.TheVariants as kind
+use Rattle.rv_asm.specs.declared.pieces.PieceKind.{PieceKind}
+use Rattle.rv_asm.specs.declared.pieces.PieceKind.TheVariants as kind
 use Rattle.rv_asm.specs.Statement.{begins_with, behind, takes_strings}
 
 pub record Piece : Type 0 where
-  pub kind : Kind
+  pub kind : PieceKind
   pub bytes : List ℕ
 
 -- the text begins with these two bytes
@@ -22,7 +22,7 @@ is_return (b ∷ []) = nat_eq b 13
 is_return (b ∷ c ∷ rest) = nat_eq b 13 && nat_eq c 10
 
 -- what stands at a place: the first of these that fits; a `"` is one only where strings are taken
-abbrev pub kind_at : Bool → List ℕ → Kind
+abbrev pub kind_at : Bool → List ℕ → PieceKind
 kind_at strings text =
     if begins_with 35 text then kind.Line else
     if begins 47 47 text then kind.Line else
@@ -56,7 +56,7 @@ IsQuoted prev [] rest = EndsLine rest
 IsQuoted prev (b ∷ bs) rest = ((closes prev b ≡ true) × (bs ≡ [])) ⊎ ((closes prev b ≡ false) × (b ≢ 10) × IsQuoted b bs rest)
 
 -- how far a piece of a kind goes in front of a rest
-abbrev pub Reaches : Kind → List ℕ → List ℕ → Type 0
+abbrev pub Reaches : PieceKind → List ℕ → List ℕ → Type 0
 Reaches kind.Line bytes rest = AllByRecursion (λ b. b ≢ 10) bytes × EndsLine rest
 Reaches kind.Block bytes rest = (body : List ℕ) × (bytes ≡ 47 ∷ 42 ∷ body) × IsBody body rest
 Reaches kind.Quoted bytes rest = (body : List ℕ) × (bytes ≡ 34 ∷ body) × IsQuoted 34 body rest
@@ -74,7 +74,7 @@ joined [] = []
 joined (p ∷ ps) = p.bytes ++ joined ps
 
 -- a line feed or a `;` stands between two statements
-abbrev pub separates : Kind → Bool
+abbrev pub separates : PieceKind → Bool
 separates kind.Line = false
 separates kind.Block = false
 separates kind.Quoted = false
@@ -84,7 +84,7 @@ separates kind.Return = false
 separates kind.Byte = false
 
 -- what a piece is to its statement: a comment counts as one space, a carriage return as nothing
-abbrev pub left : Kind → List ℕ → List ℕ
+abbrev pub left : PieceKind → List ℕ → List ℕ
 left kind.Line bytes = 32 ∷ []
 left kind.Block bytes = 32 ∷ []
 left kind.Quoted bytes = bytes
@@ -94,7 +94,7 @@ left kind.Return bytes = []
 left kind.Byte bytes = bytes
 
 -- what the statement has behind its labels after a piece
-abbrev pub after : List ℕ → Kind → List ℕ → List ℕ
+abbrev pub after : List ℕ → PieceKind → List ℕ → List ℕ
 after kept k bytes = if separates k then [] else behind kept (left k bytes)
 
 -- each piece is what stands at its place, in a statement that has this much behind its labels

@@ -1,14 +1,14 @@
 -- the program of a text: its statements, their items and names, and the faults that leave a text without one
 use Rattle.std.specs.Prelude.{◌≡◌, ℕ, ◌+◌, List, [], ◌∷◌, ◌++◌, drop, nat_eq, nat_le, Bool, ◌&&◌, ◌||◌, Option, Result, if◌then◌else◌}
 use Rattle.std.specs.List.{flat_map}
-use Rattle.rv_asm.specs.declared.class.Class.TheVariants as class
+use Rattle.rv_asm.specs.declared.class.ByteClass.TheVariants as class
 use Rattle.rv_asm.specs.declared.fault.AsmRefusal.{AsmRefusal}
 use Rattle.rv_asm.specs.declared.fault.Cause.{Cause}
 use Rattle.rv_asm.specs.declared.fault.Cause.TheVariants as cause
 use Rattle.rv_asm.specs.declared.fault.Fault.{Fault}
 use Rattle.rv_asm.specs.declared.item.Item.{Item}
-use Rattle.rv_asm.specs.declared.kind.Kind.{Kind}
-use Rattle.rv_asm.specs.declared.kind.Kind.TheVariants as kind
+use Rattle.rv_asm.specs.declared.pieces.PieceKind.{PieceKind}
+use Rattle.rv_asm.specs.declared.pieces.PieceKind.TheVariants as kind
 use Rattle.rv_asm.specs.Statement.{skip, is_empty, behind_labels}
 use Rattle.rv_asm.specs.Pieces.{Piece, IsCut, has_close, separates, left}
 use Rattle.rv_asm.specs.Extents.{feeds}
@@ -16,7 +16,7 @@ use Rattle.rv_asm.specs.Operands.{with_front}
 use Rattle.rv_asm.specs.Forms.{Fit}
 use Rattle.rv_asm.specs.Meaning.{meaning}
 use Rattle.rv_asm.specs.Marks.{mark_of, refused_at, remark_of, comment_text}
-use Rattle.rv_asm.specs.Code.{items_at, names_at, faults_at}
+use Rattle.rv_asm.specs.Items.{items_at, names_at, faults_at}
 use Rattle.rv_asm.specs.Faults.{IsFirst, refusal_of}
 use Rattle.rv_asm.specs.LongLines.{lines_of, long_in}
 
@@ -25,7 +25,7 @@ use Rattle.rv_asm.specs.LongLines.{lines_of, long_in}
 -- a piece of a statement, and the line where it begins
 pub record Placed : Type 0 where
   pub line : ℕ
-  pub kind : Kind
+  pub kind : PieceKind
   pub bytes : List ℕ
 
 abbrev pub placed : ℕ → Piece → Placed
@@ -48,7 +48,7 @@ abbrev pub meaning_of : List Placed → Result (Option Fit) Cause
 meaning_of s = meaning (behind_labels (text_of s))
 
 -- what a piece marks
-abbrev pub marked : ℕ → Kind → List ℕ → List Item
+abbrev pub marked : ℕ → PieceKind → List ℕ → List Item
 marked n kind.Line bytes = mark_of n bytes
 marked n kind.Block bytes = []
 marked n kind.Quoted bytes = []
@@ -80,7 +80,7 @@ abbrev pub is_plain_byte : ℕ → Bool
 is_plain_byte b = nat_eq b 9 || (nat_le 32 b && nat_le b 126)
 
 -- a byte that may stand in no statement
-abbrev pub bad_of : ℕ → Kind → List ℕ → List Fault
+abbrev pub bad_of : ℕ → PieceKind → List ℕ → List Fault
 bad_of n kind.Line bytes = []
 bad_of n kind.Block bytes = []
 bad_of n kind.Quoted bytes = []
@@ -90,7 +90,7 @@ bad_of n kind.Return bytes = []
 bad_of n kind.Byte bytes = flat_map (λ b. if is_plain_byte b then [] else record { line = n; cause = cause.BadByte } ∷ []) bytes
 
 -- a comment for the analyser that is no mark
-abbrev pub comment_of : ℕ → Kind → List ℕ → List Fault
+abbrev pub comment_of : ℕ → PieceKind → List ℕ → List Fault
 comment_of n kind.Line bytes = refused_at n (remark_of (comment_text bytes))
 comment_of n kind.Block bytes = []
 comment_of n kind.Quoted bytes = []
@@ -100,7 +100,7 @@ comment_of n kind.Return bytes = []
 comment_of n kind.Byte bytes = []
 
 -- a block comment that is never closed
-abbrev pub unclosed_of : ℕ → Kind → List ℕ → List Fault
+abbrev pub unclosed_of : ℕ → PieceKind → List ℕ → List Fault
 unclosed_of n kind.Line bytes = []
 unclosed_of n kind.Block bytes = if has_close (drop 2 bytes) then [] else record { line = n; cause = cause.OpenComment } ∷ []
 unclosed_of n kind.Quoted bytes = []
@@ -110,7 +110,7 @@ unclosed_of n kind.Return bytes = []
 unclosed_of n kind.Byte bytes = []
 
 -- what each piece gives, from line n on
-abbrev pub of_each : (ℕ → Kind → List ℕ → List Fault) → ℕ → List Piece → List Fault
+abbrev pub of_each : (ℕ → PieceKind → List ℕ → List Fault) → ℕ → List Piece → List Fault
 of_each f n [] = []
 of_each f n (p ∷ ps) = f n p.kind p.bytes ++ of_each f (n + feeds p.bytes) ps
 

@@ -1,7 +1,7 @@
 -- what a statement begins with: its labels, and then nothing, an assignment, a directive or an instruction
 use Rattle.std.specs.Prelude.{◌≡◌, ℕ, Option, Some, None, List, [], ◌∷◌, ◌++◌, length, take_while, reverse, nat_eq, nat_le, Bool, false, ◌&&◌, ◌||◌, if◌then◌else◌}
-use Rattle.rv_asm.specs.declared.class.Class.{Class}
-use Rattle.rv_asm.specs.declared.class.Class.TheVariants as class
+use Rattle.rv_asm.specs.declared.class.ByteClass.{ByteClass}
+use Rattle.rv_asm.specs.declared.class.ByteClass.TheVariants as class
 
 abbrev pub is_letter : ℕ → Bool
 is_letter b = (nat_le 97 b && nat_le b 122) || (nat_le 65 b && nat_le b 90)
@@ -12,7 +12,7 @@ is_digit b = nat_le 48 b && nat_le b 57
 abbrev pub begins_symbol : ℕ → Bool
 begins_symbol b = is_letter b || nat_eq b 95 || nat_eq b 46 || nat_eq b 36
 
-abbrev pub is_in : Class → ℕ → Bool
+abbrev pub is_in : ByteClass → ℕ → Bool
 is_in class.Blank b = nat_eq b 32 || nat_eq b 9
 is_in class.Digit b = is_digit b
 is_in class.Word b = is_letter b || nat_eq b 95
@@ -22,15 +22,15 @@ is_in class.Operand b = begins_symbol b || is_digit b || nat_eq b 64 || nat_eq b
 is_in class.Close b = nat_eq b 41
 
 -- the text from the first byte on that is not in the class
-abbrev pub skip : Class → List ℕ → List ℕ
+abbrev pub skip : ByteClass → List ℕ → List ℕ
 skip c [] = []
 skip c (b ∷ bs) = if is_in c b then skip c bs else b ∷ bs
 
 -- how many bytes at the end of the text are in the class
-abbrev pub trailing : Class → List ℕ → ℕ
+abbrev pub trailing : ByteClass → List ℕ → ℕ
 trailing c text = length (take_while (is_in c) (reverse text))
 
-abbrev pub begins_in : Class → List ℕ → Bool
+abbrev pub begins_in : ByteClass → List ℕ → Bool
 begins_in c [] = false
 begins_in c (b ∷ bs) = is_in c b
 

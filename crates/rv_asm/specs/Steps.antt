@@ -1,19 +1,19 @@
 -- what is known of a text up to a place, and what each piece adds to it
 use Rattle.std.specs.Prelude.{ℕ, ◌+◌, List, [], ◌∷◌, ◌++◌, drop, nat_eq, ◌&&◌, not, Option, Some, None, Result, is_some, if◌then◌else◌}
-use Rattle.rv_asm.specs.declared.class.Class.TheVariants as class
+use Rattle.rv_asm.specs.declared.class.ByteClass.TheVariants as class
 use Rattle.rv_asm.specs.declared.fault.Cause.{Cause}
 use Rattle.rv_asm.specs.declared.fault.Cause.TheVariants as cause
 use Rattle.rv_asm.specs.declared.fault.Fault.{Fault}
 use Rattle.rv_asm.specs.declared.item.Item.{Item}
-use Rattle.rv_asm.specs.declared.kind.Kind.{Kind}
-use Rattle.rv_asm.specs.declared.kind.Kind.TheVariants as kind
+use Rattle.rv_asm.specs.declared.pieces.PieceKind.{PieceKind}
+use Rattle.rv_asm.specs.declared.pieces.PieceKind.TheVariants as kind
 use Rattle.rv_asm.specs.Statement.{skip, is_empty, behind}
 use Rattle.rv_asm.specs.Pieces.{Piece}
 use Rattle.rv_asm.specs.Extents.{close_from, feeds}
 use Rattle.rv_asm.specs.Forms.{Fit}
 use Rattle.rv_asm.specs.Meaning.{meaning}
 use Rattle.rv_asm.specs.Marks.{mark_at, refused_at, remark_of, comment_text}
-use Rattle.rv_asm.specs.Code.{items_at, names_at, faults_at}
+use Rattle.rv_asm.specs.Items.{items_at, names_at, faults_at}
 use Rattle.rv_asm.specs.Faults.{earlier, least}
 use Rattle.rv_asm.specs.Program.{is_plain_byte}
 
@@ -60,7 +60,7 @@ shut s found = record s {
 abbrev pub ended : Known → Known
 ended s = shut s (meaning s.text)
 
-abbrev pub taken : Known → Kind → List ℕ → Known
+abbrev pub taken : Known → PieceKind → List ℕ → Known
 taken s kind.Line bytes = with_line s bytes
 taken s kind.Block bytes = with_block s bytes
 taken s kind.Quoted bytes = put s bytes

@@ -1,7 +1,7 @@
 -- symbolic immediates: a symbol, a label of digits seen backwards or forwards, and a relocation around one
 use Rattle.std.specs.Prelude.{ℕ, zero, suc, ◌-◌, List, length, take, drop, nat_eq, Bool, false, ◌&&◌, ◌||◌, not, Option, Some, None, is_some, option_and_then, if◌then◌else◌, codes}
 use Rattle.std.specs.Cmp.Lexicographic.{pointwise}
-use Rattle.rv_asm.specs.declared.class.Class.TheVariants as class
+use Rattle.rv_asm.specs.declared.class.ByteClass.TheVariants as class
 use Rattle.rv_asm.specs.Statement.{skip, trailing, begins_in, begins_with, is_empty}
 use Rattle.rv_asm.specs.Pieces.{begins}
 use Rattle.rv_isa.specs.Registers.{register_named}

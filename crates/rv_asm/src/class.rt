@@ -4,7 +4,7 @@ ghost use Rattle.rv_asm.specs.Statement.{is_letter, is_digit, begins_symbol, is_
 
 /// A class of bytes that texts are made of.
 #[derive(Clone, Copy, Debug, PartialEq, Eq)]
-pub enum Class {
+pub enum ByteClass {
     /// A space or a tab.
     Blank,
     /// A decimal digit.
@@ -39,27 +39,27 @@ fn begins_symbol(b: u8) -> bool
     is_letter(b) || b == b'_' || b == b'.' || b == b'$'
 }
 
-impl Class {
+impl ByteClass {
     /// Whether a byte is in the class.
     pub fn has(self, b: u8) -> bool
         ensures { result ≡ is_in self b }
     {
         match self {
-            Class::Blank => b == b' ' || b == b'\t',
-            Class::Digit => is_digit(b),
-            Class::Word => is_letter(b) || b == b'_',
-            Class::Start => begins_symbol(b),
-            Class::Symbol => begins_symbol(b) || is_digit(b),
-            Class::Operand => {
+            ByteClass::Blank => b == b' ' || b == b'\t',
+            ByteClass::Digit => is_digit(b),
+            ByteClass::Word => is_letter(b) || b == b'_',
+            ByteClass::Start => begins_symbol(b),
+            ByteClass::Symbol => begins_symbol(b) || is_digit(b),
+            ByteClass::Operand => {
                 begins_symbol(b) || is_digit(b) || b == b'@' || b == b'+' || b == b'-'
             }
-            Class::Close => b == b')',
+            ByteClass::Close => b == b')',
         }
     }
 }
 
 /// The text from the first byte on that is not in the class.
-pub fn skip(class: Class, text: &[u8]) -> &[u8]
+pub fn skip(class: ByteClass, text: &[u8]) -> &[u8]
     ensures rest { result.now ≡ skip class text.now }
     ensures within { length result.now ≤ length text.now }
 {
@@ -74,7 +74,7 @@ pub fn skip(class: Class, text: &[u8]) -> &[u8]
 }
 
 /// Whether the first byte is in the class.
-pub fn begins_in(class: Class, text: &[u8]) -> bool
+pub fn begins_in(class: ByteClass, text: &[u8]) -> bool
     ensures { result ≡ begins_in class text.now }
 {
     match text {
@@ -95,14 +95,14 @@ pub fn begins_with(a: u8, text: &[u8]) -> bool
 }
 
 /// Whether there is no byte but those of the class.
-pub fn is_all(class: Class, text: &[u8]) -> bool
+pub fn is_all(class: ByteClass, text: &[u8]) -> bool
     ensures { result ≡ is_empty (skip class text.now) }
 {
     skip(class, text).is_empty()
 }
 
 /// How many bytes at the end of the text are in the class.
-pub fn trailing(class: Class, text: &[u8]) -> usize
+pub fn trailing(class: ByteClass, text: &[u8]) -> usize
     ensures count { result ≡ trailing class text.now }
     ensures within { result ≤ length text.now }
 {

@@ -3,9 +3,9 @@ ghost use Rattle.std.specs.Prelude.{◌≡◌, ◌<◌, ◌^◌, length, map};
 ghost use Rattle.rv_asm.specs.Operands.{operands_in};
 ghost use Rattle.rv_asm.specs.Forms.{map_ok, row_of, fit_of, fits, stage, further, judged};
 
+use crate::accept::accept_all;
 use crate::fault::Cause;
 use crate::operand::{Parts, Shape};
-use crate::row::accept_all;
 use crate::split::count_operands;
 use rv_expand::PseudoKind;
 use rv_isa::Op;
@@ -21,7 +21,7 @@ pub enum Makes {
 
 /// A form: a mnemonic, what its operands are, and what it stands for.
 #[derive(Clone, Copy, Debug)]
-pub struct Form {
+pub struct MnemonicForm {
     pub mnemonic: &'static str,
     pub shapes: &'static [Shape],
     pub makes: Makes,
@@ -52,7 +52,7 @@ fn further(a: Cause, b: Cause) -> Cause
 }
 
 /// A form of the mnemonic at the operands in a text, of which there are `count`.
-fn fits<'a>(form: &Form, count: usize, text: &'a [u8]) -> Result<Made<'a>, Cause>
+fn fits<'a>(form: &MnemonicForm, count: usize, text: &'a [u8]) -> Result<Made<'a>, Cause>
     requires { count ≡ length (operands_in text.now) }
     ensures { map_ok fit_of result ≡ fits (row_of form.now) (operands_in text.now) }
 {
@@ -75,7 +75,7 @@ fn fits<'a>(form: &Form, count: usize, text: &'a [u8]) -> Result<Made<'a>, Cause
 
 /// The first of the forms that a mnemonic and the operands in a text fit, or the cause of the one that
 /// got furthest.
-pub fn judge<'a>(forms: &[Form], mnemonic: &[u8], text: &'a [u8]) -> Result<Made<'a>, Cause>
+pub fn judge<'a>(forms: &[MnemonicForm], mnemonic: &[u8], text: &'a [u8]) -> Result<Made<'a>, Cause>
     ensures { map_ok fit_of result ≡ judged Cause.UnknownMnemonic (map row_of forms.now) mnemonic.now (operands_in text.now) }
 {
     let count = count_operands(text);

@@ -4,11 +4,11 @@ ghost use Rattle.std.specs.Option.{option_map};
 ghost use Rattle.std.specs.List.{list_any};
 ghost use Rattle.std.specs.Cmp.Lexicographic.{pointwise};
 ghost use Rattle.rv_asm.specs.Operands.{operands_in, parts_of};
-ghost use Rattle.rv_asm.specs.Code.{is_right};
+ghost use Rattle.rv_asm.specs.Items.{is_right};
 ghost use Rattle.rv_asm.specs.Forms.{map_ok, fit_of};
 ghost use Rattle.rv_asm.specs.Meaning.{blank_from, is_refused, fit_in, instruction_in, meaning_at, meaning};
 
-use crate::class::{Class, skip};
+use crate::class::{ByteClass, skip};
 use crate::fault::Cause;
 use crate::form::{Made, judge};
 use crate::statement::{is_assignment, is_directive};
@@ -25,7 +25,7 @@ fn word_end(text: &[u8]) -> usize
     ensures within { result ≤ length text.now }
 {
     for (k, b) in text.iter().enumerate() {
-        if Class::Blank.has(*b) {
+        if ByteClass::Blank.has(*b) {
             return k;
         }
     }
@@ -52,21 +52,12 @@ fn is_refused(word: &[u8]) -> bool
     word.starts_with(b".if") || word.starts_with(b".else")
 }
 
-fn form_of<'a>(mnemonic: &[u8], operands: &'a [u8]) -> Result<Made<'a>, Cause>
-    ensures { map_ok fit_of result ≡ fit_in mnemonic.now (operands_in operands.now) }
-{
-    judge(&FORMS, mnemonic, operands)
-}
-
 /// The form of the table that a mnemonic and the operands in a text fit.
 fn fit_in<'a>(mnemonic: &[u8], operands: &'a [u8]) -> Result<Made<'a>, Cause>
     ensures fit { map_ok fit_of result ≡ fit_in mnemonic.now (operands_in operands.now) }
     ensures right { IfOk result (λ m. is_right m.makes (parts_of m.parts) m.parts.imm ≡ true) }
 {
-    match form_of(mnemonic, operands) {
-        Ok(made) => Ok(made),
-        Err(cause) => Err(cause),
-    }
+    judge(&FORMS, mnemonic, operands)
 }
 
 fn instruction_in(text: &[u8]) -> Result<Made<'_>, Cause>
@@ -107,5 +98,5 @@ pub fn meaning(text: &[u8]) -> Result<Option<Made<'_>>, Cause>
     ensures meaning { map_ok (option_map fit_of) result ≡ meaning text.now }
     ensures right { IfOk result (λ o. IfSome o (λ m. is_right m.makes (parts_of m.parts) m.parts.imm ≡ true)) }
 {
-    meaning_at(skip(Class::Blank, text))
+    meaning_at(skip(ByteClass::Blank, text))
 }

@@ -1,7 +1,7 @@
 //! The items of a text, kept short. A text may have an item for every three or four bytes, and an `Item`,
 //! which has room for any number and any name, takes twice as much as the instructions that texts are
 //! made of need.
-ghost use Rattle.std.specs.Prelude.{◌≡◌, ◌<◌, ◌++◌, ◌∷◌, [], length, nat_eq, slice_get, Some, OnOk, OnErr, IfSome, IsSome, List};
+ghost use Rattle.std.specs.Prelude.{◌≡◌, ◌<◌, ◌++◌, ◌∷◌, [], ℕ, length, take, nat_eq, slice_get, Some, OnOk, OnErr, IfSome, IsSome, List};
 ghost use Rattle.rv_asm.specs.declared.item.Item.{Item as ItemOf};
 ghost use Rattle.rv_asm.specs.Listing.{item_of, with_imm, kept_item, IsWithin, HasRoom};
 
@@ -23,7 +23,7 @@ struct Stem {
 
 /// An item as it is kept.
 #[derive(Clone, Copy, Debug)]
-enum Kept {
+enum ShortItem {
     /// An instruction without an immediate.
     Plain(Stem),
     /// An instruction whose immediate is a number of at most 32 bits.
@@ -34,12 +34,12 @@ enum Kept {
     Aside(u32),
 }
 
-const _: () = prove!(size_of::<Kept>() == 16);
+const _: () = prove!(size_of::<ShortItem>() == 16);
 
 /// The items of a text, in the order of their places. Contracts see the list.
 #[derive(Debug, Drop)]
 pub struct Listing {
-    kept: Vec<Kept>,
+    kept: Vec<ShortItem>,
     aside: Vec<Item>,
 }
 
@@ -87,7 +87,7 @@ impl Stem {
 }
 
 /// How an instruction is kept, unless its immediate is a number of more than 32 bits.
-fn short(line: u32, instr: &Instr) -> Option<Kept>
+fn short(line: u32, instr: &Instr) -> Option<ShortItem>
     ensures item { IfSome result (λ kept. (aside : List ItemOf) → kept_item aside kept ≡ ItemOf.Code line instr.now) }
     ensures within { IfSome result (λ kept. (aside : List ItemOf) → IsWithin aside kept) }
     ensures some { HasRoom instr.now.imm → IsSome result }
@@ -100,10 +100,10 @@ fn short(line: u32, instr: &Instr) -> Option<Kept>
         rs2: instr.rs2,
     };
     match instr.imm {
-        Imm::None => Some(Kept::Plain(stem)),
-        Imm::Symbol(n) => Some(Kept::Symbol(stem, n)),
+        Imm::None => Some(ShortItem::Plain(stem)),
+        Imm::Symbol(n) => Some(ShortItem::Symbol(stem, n)),
         Imm::Value(n) => match i32::try_from(n) {
-            Ok(n) => Some(Kept::Number(stem, n)),
+            Ok(n) => Some(ShortItem::Number(stem, n)),
             Err(_) => None,
         },
     }
@@ -139,7 +139,7 @@ impl Listing {
             return Err(NoMemory);
         };
         self.aside.push(item)?;
-        self.kept.push(Kept::Aside(place))?;
+        self.kept.push(ShortItem::Aside(place))?;
         Ok(())
     }
 
@@ -159,7 +159,8 @@ impl Listing {
 
     /// Items go behind the others; where memory is wanting, only the first of them may.
     pub fn extend(&mut self, items: Vec<Item>) -> Result<(), NoMemory>
-        ensures { OnOk result (self.new ≡ self.old ++ items.items) }
+        ensures ok { OnOk result (self.new ≡ self.old ++ items.items) }
+        ensures err { OnErr result ((n : ℕ) × (self.new ≡ self.old ++ take n items.items)) }
     {
         for item in items {
             self.push(item)?;
@@ -188,10 +189,10 @@ impl Listing {
     {
         let kept = self.kept[place];
         match kept {
-            Kept::Plain(stem) => stem.with(Imm::None),
-            Kept::Number(stem, n) => stem.with(Imm::Value(i64::from(n))),
-            Kept::Symbol(stem, n) => stem.with(Imm::Symbol(n)),
-            Kept::Aside(k) => borrowed(&self.aside[k as usize]),
+            ShortItem::Plain(stem) => stem.with(Imm::None),
+            ShortItem::Number(stem, n) => stem.with(Imm::Value(i64::from(n))),
+            ShortItem::Symbol(stem, n) => stem.with(Imm::Symbol(n)),
+            ShortItem::Aside(k) => borrowed(&self.aside[k as usize]),
         }
     }
 }

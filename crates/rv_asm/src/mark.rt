@@ -3,7 +3,7 @@ ghost use Rattle.std.specs.Prelude.{◌≡◌, ◌≤◌, length, drop, if◌the
 ghost use Rattle.rv_asm.specs.Statement.{begins_with};
 ghost use Rattle.rv_asm.specs.Marks.{without_return, comment_text, ends_word, remark_at, remark_of};
 
-use crate::class::{Class, begins_in, begins_with, skip};
+use crate::class::{ByteClass, begins_in, begins_with, skip};
 
 /// What a comment says to the analyser.
 #[derive(Clone, Copy, Debug, PartialEq, Eq)]
@@ -50,13 +50,13 @@ fn behind_sign(bytes: &[u8]) -> &[u8]
 pub fn comment_text(bytes: &[u8]) -> &[u8]
     ensures { result.now ≡ comment_text bytes.now }
 {
-    skip(Class::Blank, without_return(behind_sign(bytes)))
+    skip(ByteClass::Blank, without_return(behind_sign(bytes)))
 }
 
 fn ends_word(text: &[u8]) -> bool
     ensures { result ≡ ends_word text.now }
 {
-    text.is_empty() || begins_in(Class::Blank, text)
+    text.is_empty() || begins_in(ByteClass::Blank, text)
 }
 
 fn remark_at(text: &[u8]) -> Remark

@@ -1,13 +1,13 @@
 //! Operands: what each may be, and what those of an instruction come to.
-ghost use Rattle.std.specs.Prelude.{◌≡◌, ◌<◌, ◌≤◌, ◌≤ℤ◌, ◌^◌, pos, neg_ℤ, true, length, map, Some, None, FitsSigned, IfSome, if◌then◌else◌};
+ghost use Rattle.std.specs.Prelude.{◌≡◌, ◌<◌, ◌≤◌, ◌≤ℤ◌, ◌^◌, pos, neg_ℤ, true, length, Some, None, FitsSigned, IfSome, if◌then◌else◌};
 ghost use Rattle.std.specs.Int.{w64};
-ghost use Rattle.rv_isa.specs.Registers.{place_from};
 ghost use Rattle.rv_isa.specs.Instruction.{is_within};
-ghost use Rattle.rv_asm.specs.Operands.{last_open, set_names, is_wide, wrapped};
+ghost use Rattle.rv_asm.specs.Operands.{last_open, is_wide, wrapped};
 
 use crate::number::number_at;
 use crate::symbol::is_symbolic;
-use rv_isa::{Bounds, Imm, Reg, register_of};
+use rv_isa::ranges::{BRANCH, JUMP, SHIFT_32, SHIFT_64, SIGNED_12, UPPER};
+use rv_isa::{Imm, ImmRange, Reg, register_of, set_of};
 
 /// What an operand may be.
 #[derive(Clone, Copy, Debug, PartialEq, Eq)]
@@ -58,77 +58,11 @@ pub struct Parts<'a> {
     pub beyond: bool,
 }
 
-const UPPER: Bounds = Bounds {
-    low: 0,
-    high: 1_048_575,
-    even: false,
-};
-
-const SIGNED_12: Bounds = Bounds {
-    low: -2_048,
-    high: 2_047,
-    even: false,
-};
-
-const SHIFT_64: Bounds = Bounds {
-    low: 0,
-    high: 63,
-    even: false,
-};
-
-const SHIFT_32: Bounds = Bounds {
-    low: 0,
-    high: 31,
-    even: false,
-};
-
-const BRANCH: Bounds = Bounds {
-    low: -4_096,
-    high: 4_094,
-    even: true,
-};
-
-const JUMP: Bounds = Bounds {
-    low: -1_048_576,
-    high: 1_048_574,
-    even: true,
-};
-
-/// The sets of a fence, by their numbers.
-const SET_NAMES: [&str; 16] = [
-    "0", "w", "r", "rw", "o", "ow", "or", "orw", "i", "iw", "ir", "irw", "io", "iow", "ior", "iorw",
-];
-
-fn place_in(names: &[&str], text: &[u8]) -> Option<usize>
-    ensures place { result ≡ place_from 0 (map (λ n. n.now) names.now) text.now }
-    ensures bound { IfSome result (λ place. place < length names.now) }
-{
-    for (place, name) in names.iter().enumerate() {
-        if text == name.as_bytes() {
-            return Some(place);
-        }
-    }
-    None
-}
-
-/// The number of a fence's set.
-fn set_of(text: &[u8]) -> Option<u8>
-    ensures place { result ≡ place_from 0 set_names text.now }
-    ensures bound { IfSome result (λ place. place < 16) }
-{
-    match place_in(&SET_NAMES, text) {
-        Some(place) => Some(place as u8),
-        None => None,
-    }
-}
-
-fn is_within(bounds: Bounds, number: i128) -> bool
-    ensures test { result ≡ is_within bounds number }
+fn is_within(range: ImmRange, number: i128) -> bool
+    ensures test { result ≡ is_within range number }
     ensures fits { result ≡ true → FitsSigned w64 number }
 {
-    bounds.low as i128 <= number
-        && number <= bounds.high as i128
-        && (!bounds.even || number % 2 == 0)
+    range.low as i128 <= number && number <= range.high as i128 && (!range.even || number % 2 == 0)
 }
 
 fn narrowed(number: i128) -> i64
@@ -198,13 +132,13 @@ impl<'a> Parts<'a> {
         true
     }
 
-    fn immediate(&mut self, bounds: Bounds, text: &'a [u8]) -> bool
-        ensures { (if result then Some (parts_of self.new) else None) ≡ immediate bounds text.now (parts_of self.old) }
+    fn immediate(&mut self, range: ImmRange, text: &'a [u8]) -> bool
+        ensures { (if result then Some (parts_of self.new) else None) ≡ immediate range text.now (parts_of self.old) }
     {
         match number_at(text) {
             None => self.symbolic(text),
             Some(number) => {
-                if is_within(bounds, number) {
+                if is_within(range, number) {
                     self.imm = Imm::Value(narrowed(number));
                 } else {
                     self.beyond = true;

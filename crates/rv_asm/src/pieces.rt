@@ -1,10 +1,28 @@
-//! The piece at a place of a text: what it is, and how long.
+//! The pieces into which a text is cut: what stands at a place, and how far it goes.
 ghost use Rattle.std.specs.Prelude.{◌≡◌, ◌<◌, ◌≤◌, ◌^◌, length, true, IfSome, is_some};
 ghost use Rattle.rv_asm.specs.Pieces.{kind_at, begins, is_return, closes};
 ghost use Rattle.rv_asm.specs.Extents.{feed_from, close_from, quote_from, len_of, feeds};
 
 use crate::class::begins_with;
-use crate::kind::Kind;
+
+/// What a piece of a text is.
+#[derive(Clone, Copy, Debug, PartialEq, Eq)]
+pub enum PieceKind {
+    /// A comment from `#` or `//` to the end of its line.
+    Line,
+    /// A comment from `/*` to `*/`, or to the end of the text.
+    Block,
+    /// A string of a directive or an assignment.
+    Quoted,
+    /// A line feed.
+    Feed,
+    /// A semicolon, which separates two statements of a line.
+    Semi,
+    /// A carriage return before a line feed or at the end of the text, which counts as nothing.
+    Return,
+    /// Any other byte.
+    Byte,
+}
 
 pub fn begins(a: u8, b: u8, text: &[u8]) -> bool
     ensures test { result ≡ begins a b text.now }
@@ -27,31 +45,31 @@ fn is_return(text: &[u8]) -> bool
 }
 
 /// The kind of the piece at the front of a text, where `strings` says whether a `"` begins a string there.
-pub fn kind_at(strings: bool, text: &[u8]) -> Kind
+pub fn kind_at(strings: bool, text: &[u8]) -> PieceKind
     ensures { result ≡ kind_at strings text.now }
 {
     if begins_with(b'#', text) {
-        return Kind::Line;
+        return PieceKind::Line;
     }
     if begins(b'/', b'/', text) {
-        return Kind::Line;
+        return PieceKind::Line;
     }
     if begins(b'/', b'*', text) {
-        return Kind::Block;
+        return PieceKind::Block;
     }
     if strings && begins_with(b'"', text) {
-        return Kind::Quoted;
+        return PieceKind::Quoted;
     }
     if begins_with(b'\n', text) {
-        return Kind::Feed;
+        return PieceKind::Feed;
     }
     if begins_with(b';', text) {
-        return Kind::Semi;
+        return PieceKind::Semi;
     }
     if is_return(text) {
-        return Kind::Return;
+        return PieceKind::Return;
     }
-    Kind::Byte
+    PieceKind::Byte
 }
 
 /// The place of the first line feed, or the end.
@@ -106,21 +124,21 @@ fn quote_at(text: &[u8]) -> usize
 }
 
 /// How many bytes the piece at the front of a text has, where its kind is known.
-pub fn piece_len(strings: bool, kind: Kind, text: &[u8]) -> usize
+pub fn piece_len(strings: bool, kind: PieceKind, text: &[u8]) -> usize
     requires kind { kind ≡ kind_at strings text.now }
     requires some { 0 < length text.now }
     ensures len { result ≡ len_of kind text.now }
     ensures low { 1 ≤ result }
     ensures high { result ≤ length text.now }
-    ensures block { kind ≡ Kind.Block → 2 ≤ result }
+    ensures block { kind ≡ PieceKind.Block → 2 ≤ result }
 {
     match kind {
-        Kind::Line => feed_at(text),
-        Kind::Block => match close_at(&text[2..]) {
+        PieceKind::Line => feed_at(text),
+        PieceKind::Block => match close_at(&text[2..]) {
             Some(k) => k + 2,
             None => text.len(),
         },
-        Kind::Quoted => quote_at(&text[1..]) + 1,
+        PieceKind::Quoted => quote_at(&text[1..]) + 1,
         _ => 1,
     }
 }

@@ -1,10 +1,13 @@
 //! The program of a text.
-ghost use Rattle.std.specs.Prelude.{◌≡◌, ◌⊎◌, ℕ, ◌+◌, ◌<◌, ◌≤◌, ◌^◌, length, List, None, Some, Err, IfOk, IfErr};
+ghost use Rattle.std.specs.Prelude.{◌≡◌, ◌⊎◌, ℕ, ◌+◌, ◌<◌, ◌≤◌, ◌^◌, length, List, None, Some, Err, All, IfOk, IfErr};
+ghost use Rattle.mca_fixed.specs.declared.limits.TheConstants.{MOST_TEXT_BYTES};
+ghost use Rattle.rv_isa.specs.Symbol.{IsSymbolText};
 ghost use Rattle.rv_asm.specs.Pieces.{Piece, IsCut};
 ghost use Rattle.rv_asm.specs.Steps.{start, run};
 ghost use Rattle.rv_asm.specs.LongLines.{long_at, long_from};
 ghost use Rattle.rv_asm.specs.Faults.{IsMemory, refusal_of};
 ghost use Rattle.rv_asm.specs.Program.{IsProgram, IsFault};
+ghost use Rattle.rv_asm.specs.Spellable.{IsSpellableItem};
 ghost use Rattle.rv_asm.specs.declared.fault.AsmKind.TheVariants.{Memory};
 ghost use Rattle.rv_asm.specs.declared.fault.AsmRefusal.{AsmRefusal as Refusal};
 
@@ -20,7 +23,7 @@ const LONGEST: usize = 4096;
 
 /// Takes all pieces of a text, one after the other.
 fn cut_through(alloc: Global, text: &[u8]) -> Result<State, NoMemory>
-    requires { length text.now ≤ 8388608 }
+    requires { length text.now ≤ MOST_TEXT_BYTES }
     ensures { IfOk result (λ s. (pieces : List Piece) × IsCut text.now pieces × (s ≡ run start pieces)) }
 {
     let mut state = State::start(alloc);
@@ -50,7 +53,7 @@ fn long_at(line: u32, count: usize) -> Option<Fault>
 
 /// The first line that is too long.
 fn long_line(text: &[u8]) -> Option<Fault>
-    requires { length text.now ≤ 8388608 }
+    requires { length text.now ≤ MOST_TEXT_BYTES }
     ensures { result ≡ long_from 1 0 text.now }
 {
     let mut line = 1;
@@ -83,9 +86,13 @@ fn no_memory() -> AsmRefusal
 /// stands in no text, the statements and the comments that begin there from left to right, a comment that
 /// is never closed. Never answers the kinds of regions or `NotYet`.
 pub fn read_asm(alloc: Global, text: &[u8]) -> Result<AsmText, AsmRefusal>
-    requires { length text.now ≤ 8388608 }
+    requires { length text.now ≤ MOST_TEXT_BYTES }
     // What is read is the text's program.
     ensures program { IfOk result (λ p. IsProgram text.now p.items p.names) }
+    // Each instruction can be spelled with the names, and each name is a symbolic immediate.
+    ensures spellable { IfOk result (λ p. All (IsSpellableItem p.names) p.items) }
+    ensures symbols { IfOk result (λ p. All IsSymbolText p.names) }
+    ensures few { IfOk result (λ p. length p.items < 2 ^ 32) }
     // A refusal is want of memory, or the first fault of the text.
     ensures fault { (r : Refusal) → result ≡ Err r → IsMemory r.kind ⊎ IsFault text.now r }
     ensures no_line { IfErr result (λ r. IsMemory r.kind → r.line ≡ 0) }

@@ -3,7 +3,7 @@ ghost use Rattle.std.specs.Prelude.{◌≡◌, ◌≤◌, ◌<◌, ◌+◌, ◌^
 ghost use Rattle.std.specs.Option.{option_map};
 ghost use Rattle.rv_asm.specs.Operands.{separates_at, depth_after, between_commas, front_of, trimmed, operands_in, others};
 
-use crate::class::{Class, is_all, skip, trailing};
+use crate::class::{ByteClass, is_all, skip, trailing};
 
 /// How many parentheses are open behind a byte.
 fn depth_after(depth: usize, b: u8) -> usize
@@ -29,7 +29,7 @@ fn separates_at(depth: usize, b: u8) -> bool
 fn front_of(text: &[u8]) -> &[u8]
     ensures { result.now ≡ front_of text.now }
 {
-    let blanks = trailing(Class::Blank, text);
+    let blanks = trailing(ByteClass::Blank, text);
     &text[..text.len() - blanks]
 }
 
@@ -37,7 +37,7 @@ fn front_of(text: &[u8]) -> &[u8]
 pub fn trimmed(text: &[u8]) -> &[u8]
     ensures { result.now ≡ trimmed text.now }
 {
-    front_of(skip(Class::Blank, text))
+    front_of(skip(ByteClass::Blank, text))
 }
 
 /// The text up to the first comma outside parentheses, and the text behind that comma.
@@ -74,7 +74,7 @@ fn count_between(text: &[u8]) -> usize
 pub fn count_operands(text: &[u8]) -> usize
     ensures { result ≡ length (operands_in text.now) }
 {
-    if is_all(Class::Blank, text) {
+    if is_all(ByteClass::Blank, text) {
         return 0;
     }
     count_between(text)

@@ -6,16 +6,15 @@ ghost use Rattle.rv_asm.specs.Faults.{earlier, least};
 ghost use Rattle.rv_asm.specs.Program.{is_plain_byte};
 ghost use Rattle.rv_asm.specs.Steps.{start, put, with_byte, with_line, with_block, ended, taken, step, first_of, Known};
 
-use crate::body::Body;
-use crate::class::{Class, begins_with, is_all};
-use crate::code::put_statement;
+use crate::behind_labels::BehindLabels;
+use crate::class::{ByteClass, begins_with, is_all};
 use crate::fault::{Cause, Fault, earlier};
 use crate::item::{AsmText, Item};
-use crate::kind::Kind;
+use crate::items::put_statement;
 use crate::listing::Listing;
 use crate::mark::{Remark, behind, comment_text, remark_of};
 use crate::names::Names;
-use crate::pieces::{feeds, is_closed};
+use crate::pieces::{PieceKind, feeds, is_closed};
 use crate::split::trimmed;
 use mca_fixed::{Name, NoMemory};
 use std::alloc::Global;
@@ -29,22 +28,27 @@ pub struct State {
     line: u32,
     /// The line of the statement's first byte that is not blank, 0 where there is none yet.
     begun: u32,
-    body: Body,
+    text: BehindLabels,
     /// The marks of the statement's comments.
     marks: Vec<Item>,
     names: Names,
     items: Listing,
-    /// The first fault so far of each rank.
-    bad: Option<Fault>,
-    own: Option<Fault>,
-    comment: Option<Fault>,
-    unclosed: Option<Fault>,
+    first: FirstFaults,
+}
+
+/// The first fault so far of each rank.
+#[derive(Clone, Copy, Drop)]
+struct FirstFaults {
+    bad_byte: Option<Fault>,
+    statement: Option<Fault>,
+    remark: Option<Fault>,
+    open_comment: Option<Fault>,
 }
 
 impl Model for State {
     ghost Value = { Known };
 
-    ghost view = { λ s. record { line = s.line; begun = s.begun; text = s.body; marks = s.marks.items; names = s.names; items = s.items; bad = s.bad; own = s.own; comment = s.comment; unclosed = s.unclosed } };
+    ghost view = { λ s. record { line = s.line; begun = s.begun; text = s.text; marks = s.marks.items; names = s.names; items = s.items; bad = s.first.bad_byte; own = s.first.statement; comment = s.first.remark; unclosed = s.first.open_comment } };
 }
 
 fn is_plain_byte(b: u8) -> bool
@@ -99,14 +103,16 @@ impl State {
         State {
             line: 1,
             begun: 0,
-            body: Body::empty(alloc),
+            text: BehindLabels::empty(alloc),
             marks: Vec::new(alloc),
             names: Names::none(alloc),
             items: Listing::none(alloc),
-            bad: None,
-            own: None,
-            comment: None,
-            unclosed: None,
+            first: FirstFaults {
+                bad_byte: None,
+                statement: None,
+                remark: None,
+                open_comment: None,
+            },
         }
     }
 
@@ -114,15 +120,15 @@ impl State {
     pub fn quotes(&self, rest: &[u8]) -> bool
         ensures { result ≡ (begins_with 34 rest.now && takes_strings self.now.text) }
     {
-        begins_with(b'"', rest) && self.body.takes_strings()
+        begins_with(b'"', rest) && self.text.takes_strings()
     }
 
     /// The statement goes on with these bytes.
     fn put(&mut self, bytes: &[u8]) -> Result<(), NoMemory>
         ensures { OnOk result (self.new ≡ put self.old bytes.now) }
     {
-        self.body.extend(bytes)?;
-        if self.begun == 0 && !is_all(Class::Blank, bytes) {
+        self.text.extend(bytes)?;
+        if self.begun == 0 && !is_all(ByteClass::Blank, bytes) {
             self.begun = self.line;
         }
         Ok(())
@@ -140,7 +146,7 @@ impl State {
                         line: self.line,
                         cause: Cause::BadByte,
                     };
-                    self.bad = earlier(self.bad, Some(fault));
+                    self.first.bad_byte = earlier(self.first.bad_byte, Some(fault));
                 }
                 self.put(bytes)
             }
@@ -154,7 +160,7 @@ impl State {
         let text = comment_text(bytes);
         let remark = remark_of(text);
         push_mark(alloc, self.line, remark, text, &mut self.marks)?;
-        self.comment = earlier(self.comment, refused_at(self.line, remark));
+        self.first.remark = earlier(self.first.remark, refused_at(self.line, remark));
         self.put(b" ")
     }
 
@@ -168,7 +174,7 @@ impl State {
                 line: self.line,
                 cause: Cause::OpenComment,
             };
-            self.unclosed = earlier(self.unclosed, Some(fault));
+            self.first.open_comment = earlier(self.first.open_comment, Some(fault));
         }
         self.put(b" ")
     }
@@ -182,40 +188,40 @@ impl State {
         let fault = put_statement(
             alloc,
             self.begun,
-            self.body.as_slice(),
+            self.text.as_slice(),
             &mut self.names,
             &mut self.items,
         )?;
-        self.own = earlier(self.own, fault);
+        self.first.statement = earlier(self.first.statement, fault);
         self.items
             .extend(mem::replace(&mut self.marks, Vec::new(alloc)))?;
         self.begun = 0;
-        self.body.clear();
+        self.text.clear();
         Ok(())
     }
 
-    fn taken(&mut self, alloc: Global, kind: Kind, bytes: &[u8]) -> Result<(), NoMemory>
-        requires block { kind ≡ Kind.Block → 2 ≤ length bytes.now }
+    fn taken(&mut self, alloc: Global, kind: PieceKind, bytes: &[u8]) -> Result<(), NoMemory>
+        requires block { kind ≡ PieceKind.Block → 2 ≤ length bytes.now }
         requires names { length self.old.names < 2 ^ 32 - 1 }
         ensures ok { OnOk result (self.new ≡ taken self.old kind bytes.now) }
         ensures line { OnOk result (self.new.line ≡ self.old.line) }
         ensures more { OnOk result (length self.new.names ≤ length self.old.names + 1) }
     {
         match kind {
-            Kind::Line => self.with_line(alloc, bytes),
-            Kind::Block => self.with_block(bytes),
-            Kind::Quoted => self.put(bytes),
-            Kind::Feed => self.end(alloc),
-            Kind::Semi => self.end(alloc),
-            Kind::Return => Ok(()),
-            Kind::Byte => self.with_byte(bytes),
+            PieceKind::Line => self.with_line(alloc, bytes),
+            PieceKind::Block => self.with_block(bytes),
+            PieceKind::Quoted => self.put(bytes),
+            PieceKind::Feed => self.end(alloc),
+            PieceKind::Semi => self.end(alloc),
+            PieceKind::Return => Ok(()),
+            PieceKind::Byte => self.with_byte(bytes),
         }
     }
 
     /// Takes the next piece.
-    pub fn step(&mut self, alloc: Global, kind: Kind, bytes: &[u8]) -> Result<(), NoMemory>
+    pub fn step(&mut self, alloc: Global, kind: PieceKind, bytes: &[u8]) -> Result<(), NoMemory>
         requires room { self.old.line + length bytes.now < 2 ^ 32 }
-        requires block { kind ≡ Kind.Block → 2 ≤ length bytes.now }
+        requires block { kind ≡ PieceKind.Block → 2 ≤ length bytes.now }
         requires names { length self.old.names < 2 ^ 32 - 1 }
         ensures ok { OnOk result (self.new ≡ step self.old (record { kind = kind; bytes = bytes.now })) }
         ensures line { OnOk result (self.new.line ≤ self.old.line + length bytes.now) }
@@ -230,10 +236,10 @@ impl State {
     pub fn first_fault(&self, long: Option<Fault>) -> Option<Fault>
         ensures { result ≡ first_of long self.now }
     {
-        let first = earlier(long, self.bad);
-        let first = earlier(first, self.own);
-        let first = earlier(first, self.comment);
-        earlier(first, self.unclosed)
+        let first = earlier(long, self.first.bad_byte);
+        let first = earlier(first, self.first.statement);
+        let first = earlier(first, self.first.remark);
+        earlier(first, self.first.open_comment)
     }
 
     /// What was read.
@@ -244,14 +250,11 @@ impl State {
         let State {
             line: _,
             begun: _,
-            body: _,
+            text: _,
             marks: _,
             names,
             items,
-            bad: _,
-            own: _,
-            comment: _,
-            unclosed: _,
+            first: _,
         } = self;
         let names = names.into_items(alloc)?;
         Ok(AsmText { items, names })

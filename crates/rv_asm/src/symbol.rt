@@ -5,7 +5,7 @@ ghost use Rattle.rv_asm.specs.Pieces.{begins};
 ghost use Rattle.std.specs.Option.{option_map};
 ghost use Rattle.rv_asm.specs.Symbols.{is_plain, is_local, opened_word, opened, core, is_symbolic};
 
-use crate::class::{Class, begins_in, begins_with, is_all, skip, trailing};
+use crate::class::{ByteClass, begins_in, begins_with, is_all, skip, trailing};
 use crate::pieces::begins;
 use rv_isa::register_of;
 
@@ -21,10 +21,10 @@ fn is_sum_with_place(text: &[u8]) -> bool
 fn is_plain(text: &[u8]) -> bool
     ensures { result ≡ is_plain text.now }
 {
-    if !begins_in(Class::Start, text) {
+    if !begins_in(ByteClass::Start, text) {
         return false;
     }
-    if !is_all(Class::Operand, text) {
+    if !is_all(ByteClass::Operand, text) {
         return false;
     }
     register_of(text).is_none() && !is_sum_with_place(text)
@@ -33,20 +33,20 @@ fn is_plain(text: &[u8]) -> bool
 fn is_local(text: &[u8]) -> bool
     ensures { result ≡ is_local text.now }
 {
-    if !begins_in(Class::Digit, text) {
+    if !begins_in(ByteClass::Digit, text) {
         return false;
     }
-    let rest = skip(Class::Digit, text);
+    let rest = skip(ByteClass::Digit, text);
     rest == b"b".as_slice() || rest == b"f".as_slice()
 }
 
 fn opened_word(text: &[u8]) -> Option<&[u8]>
     ensures { option_map (λ t. t.now) result ≡ opened_word text.now }
 {
-    if !begins_in(Class::Word, text) {
+    if !begins_in(ByteClass::Word, text) {
         return None;
     }
-    let rest = skip(Class::Word, text);
+    let rest = skip(ByteClass::Word, text);
     if !begins_with(b'(', rest) {
         return None;
     }
@@ -78,7 +78,7 @@ fn core(levels: usize, text: &[u8]) -> Option<&[u8]>
 pub fn is_symbolic(text: &[u8]) -> bool
     ensures { result ≡ is_symbolic text.now }
 {
-    let count = trailing(Class::Close, text);
+    let count = trailing(ByteClass::Close, text);
     match core(count, &text[..text.len() - count]) {
         Some(inner) => is_plain(inner) || is_local(inner),
         None => false,

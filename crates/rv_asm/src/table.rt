@@ -1,596 +1,139 @@
 //! The table of all forms: the opcodes of RV64IM, and the aliases and pseudo-instructions that stand for
 //! them (RISC-V Unprivileged ISA, RV32I, RV64I and M; RISC-V Assembly Programmer's Manual).
 
-use crate::form::{Form, Makes};
+use crate::form::{Makes, MnemonicForm};
 use crate::operand::Shape;
 use rv_expand::PseudoKind;
 use rv_isa::Op;
 
+/// The rows of the table, each as a mnemonic, its operands, and what it stands for.
+macro_rules! forms {
+    ($($mnemonic:literal: [$($shape:ident),*] => $makes:ident($of:expr);)*) => {
+        [$(MnemonicForm {
+            mnemonic: $mnemonic,
+            shapes: &[$(Shape::$shape),*],
+            makes: Makes::$makes($of),
+        }),*]
+    };
+}
+
 /// All forms. Where a mnemonic has several, no operands fit two of them.
-pub const FORMS: [Form; 117] = [
-    Form {
-        mnemonic: "lui",
-        shapes: &[Shape::Rd, Shape::Upper],
-        makes: Makes::One(Op::Lui),
-    },
-    Form {
-        mnemonic: "auipc",
-        shapes: &[Shape::Rd, Shape::Upper],
-        makes: Makes::One(Op::Auipc),
-    },
-    Form {
-        mnemonic: "addi",
-        shapes: &[Shape::Rd, Shape::Rs1, Shape::Signed12],
-        makes: Makes::One(Op::Addi),
-    },
-    Form {
-        mnemonic: "slti",
-        shapes: &[Shape::Rd, Shape::Rs1, Shape::Signed12],
-        makes: Makes::One(Op::Slti),
-    },
-    Form {
-        mnemonic: "sltiu",
-        shapes: &[Shape::Rd, Shape::Rs1, Shape::Signed12],
-        makes: Makes::One(Op::Sltiu),
-    },
-    Form {
-        mnemonic: "xori",
-        shapes: &[Shape::Rd, Shape::Rs1, Shape::Signed12],
-        makes: Makes::One(Op::Xori),
-    },
-    Form {
-        mnemonic: "ori",
-        shapes: &[Shape::Rd, Shape::Rs1, Shape::Signed12],
-        makes: Makes::One(Op::Ori),
-    },
-    Form {
-        mnemonic: "andi",
-        shapes: &[Shape::Rd, Shape::Rs1, Shape::Signed12],
-        makes: Makes::One(Op::Andi),
-    },
-    Form {
-        mnemonic: "addiw",
-        shapes: &[Shape::Rd, Shape::Rs1, Shape::Signed12],
-        makes: Makes::One(Op::Addiw),
-    },
-    Form {
-        mnemonic: "slli",
-        shapes: &[Shape::Rd, Shape::Rs1, Shape::Shift64],
-        makes: Makes::One(Op::Slli),
-    },
-    Form {
-        mnemonic: "srli",
-        shapes: &[Shape::Rd, Shape::Rs1, Shape::Shift64],
-        makes: Makes::One(Op::Srli),
-    },
-    Form {
-        mnemonic: "srai",
-        shapes: &[Shape::Rd, Shape::Rs1, Shape::Shift64],
-        makes: Makes::One(Op::Srai),
-    },
-    Form {
-        mnemonic: "slliw",
-        shapes: &[Shape::Rd, Shape::Rs1, Shape::Shift32],
-        makes: Makes::One(Op::Slliw),
-    },
-    Form {
-        mnemonic: "srliw",
-        shapes: &[Shape::Rd, Shape::Rs1, Shape::Shift32],
-        makes: Makes::One(Op::Srliw),
-    },
-    Form {
-        mnemonic: "sraiw",
-        shapes: &[Shape::Rd, Shape::Rs1, Shape::Shift32],
-        makes: Makes::One(Op::Sraiw),
-    },
-    Form {
-        mnemonic: "add",
-        shapes: &[Shape::Rd, Shape::Rs1, Shape::Rs2],
-        makes: Makes::One(Op::Add),
-    },
-    Form {
-        mnemonic: "sub",
-        shapes: &[Shape::Rd, Shape::Rs1, Shape::Rs2],
-        makes: Makes::One(Op::Sub),
-    },
-    Form {
-        mnemonic: "slt",
-        shapes: &[Shape::Rd, Shape::Rs1, Shape::Rs2],
-        makes: Makes::One(Op::Slt),
-    },
-    Form {
-        mnemonic: "sltu",
-        shapes: &[Shape::Rd, Shape::Rs1, Shape::Rs2],
-        makes: Makes::One(Op::Sltu),
-    },
-    Form {
-        mnemonic: "xor",
-        shapes: &[Shape::Rd, Shape::Rs1, Shape::Rs2],
-        makes: Makes::One(Op::Xor),
-    },
-    Form {
-        mnemonic: "or",
-        shapes: &[Shape::Rd, Shape::Rs1, Shape::Rs2],
-        makes: Makes::One(Op::Or),
-    },
-    Form {
-        mnemonic: "and",
-        shapes: &[Shape::Rd, Shape::Rs1, Shape::Rs2],
-        makes: Makes::One(Op::And),
-    },
-    Form {
-        mnemonic: "sll",
-        shapes: &[Shape::Rd, Shape::Rs1, Shape::Rs2],
-        makes: Makes::One(Op::Sll),
-    },
-    Form {
-        mnemonic: "srl",
-        shapes: &[Shape::Rd, Shape::Rs1, Shape::Rs2],
-        makes: Makes::One(Op::Srl),
-    },
-    Form {
-        mnemonic: "sra",
-        shapes: &[Shape::Rd, Shape::Rs1, Shape::Rs2],
-        makes: Makes::One(Op::Sra),
-    },
-    Form {
-        mnemonic: "addw",
-        shapes: &[Shape::Rd, Shape::Rs1, Shape::Rs2],
-        makes: Makes::One(Op::Addw),
-    },
-    Form {
-        mnemonic: "subw",
-        shapes: &[Shape::Rd, Shape::Rs1, Shape::Rs2],
-        makes: Makes::One(Op::Subw),
-    },
-    Form {
-        mnemonic: "sllw",
-        shapes: &[Shape::Rd, Shape::Rs1, Shape::Rs2],
-        makes: Makes::One(Op::Sllw),
-    },
-    Form {
-        mnemonic: "srlw",
-        shapes: &[Shape::Rd, Shape::Rs1, Shape::Rs2],
-        makes: Makes::One(Op::Srlw),
-    },
-    Form {
-        mnemonic: "sraw",
-        shapes: &[Shape::Rd, Shape::Rs1, Shape::Rs2],
-        makes: Makes::One(Op::Sraw),
-    },
-    Form {
-        mnemonic: "mul",
-        shapes: &[Shape::Rd, Shape::Rs1, Shape::Rs2],
-        makes: Makes::One(Op::Mul),
-    },
-    Form {
-        mnemonic: "mulh",
-        shapes: &[Shape::Rd, Shape::Rs1, Shape::Rs2],
-        makes: Makes::One(Op::Mulh),
-    },
-    Form {
-        mnemonic: "mulhsu",
-        shapes: &[Shape::Rd, Shape::Rs1, Shape::Rs2],
-        makes: Makes::One(Op::Mulhsu),
-    },
-    Form {
-        mnemonic: "mulhu",
-        shapes: &[Shape::Rd, Shape::Rs1, Shape::Rs2],
-        makes: Makes::One(Op::Mulhu),
-    },
-    Form {
-        mnemonic: "mulw",
-        shapes: &[Shape::Rd, Shape::Rs1, Shape::Rs2],
-        makes: Makes::One(Op::Mulw),
-    },
-    Form {
-        mnemonic: "div",
-        shapes: &[Shape::Rd, Shape::Rs1, Shape::Rs2],
-        makes: Makes::One(Op::Div),
-    },
-    Form {
-        mnemonic: "divu",
-        shapes: &[Shape::Rd, Shape::Rs1, Shape::Rs2],
-        makes: Makes::One(Op::Divu),
-    },
-    Form {
-        mnemonic: "rem",
-        shapes: &[Shape::Rd, Shape::Rs1, Shape::Rs2],
-        makes: Makes::One(Op::Rem),
-    },
-    Form {
-        mnemonic: "remu",
-        shapes: &[Shape::Rd, Shape::Rs1, Shape::Rs2],
-        makes: Makes::One(Op::Remu),
-    },
-    Form {
-        mnemonic: "divw",
-        shapes: &[Shape::Rd, Shape::Rs1, Shape::Rs2],
-        makes: Makes::One(Op::Divw),
-    },
-    Form {
-        mnemonic: "divuw",
-        shapes: &[Shape::Rd, Shape::Rs1, Shape::Rs2],
-        makes: Makes::One(Op::Divuw),
-    },
-    Form {
-        mnemonic: "remw",
-        shapes: &[Shape::Rd, Shape::Rs1, Shape::Rs2],
-        makes: Makes::One(Op::Remw),
-    },
-    Form {
-        mnemonic: "remuw",
-        shapes: &[Shape::Rd, Shape::Rs1, Shape::Rs2],
-        makes: Makes::One(Op::Remuw),
-    },
-    Form {
-        mnemonic: "jal",
-        shapes: &[Shape::Rd, Shape::Jump],
-        makes: Makes::One(Op::Jal),
-    },
-    Form {
-        mnemonic: "jalr",
-        shapes: &[Shape::Rd, Shape::Offset],
-        makes: Makes::One(Op::Jalr),
-    },
-    Form {
-        mnemonic: "beq",
-        shapes: &[Shape::Rs1, Shape::Rs2, Shape::Branch],
-        makes: Makes::One(Op::Beq),
-    },
-    Form {
-        mnemonic: "bne",
-        shapes: &[Shape::Rs1, Shape::Rs2, Shape::Branch],
-        makes: Makes::One(Op::Bne),
-    },
-    Form {
-        mnemonic: "blt",
-        shapes: &[Shape::Rs1, Shape::Rs2, Shape::Branch],
-        makes: Makes::One(Op::Blt),
-    },
-    Form {
-        mnemonic: "bge",
-        shapes: &[Shape::Rs1, Shape::Rs2, Shape::Branch],
-        makes: Makes::One(Op::Bge),
-    },
-    Form {
-        mnemonic: "bltu",
-        shapes: &[Shape::Rs1, Shape::Rs2, Shape::Branch],
-        makes: Makes::One(Op::Bltu),
-    },
-    Form {
-        mnemonic: "bgeu",
-        shapes: &[Shape::Rs1, Shape::Rs2, Shape::Branch],
-        makes: Makes::One(Op::Bgeu),
-    },
-    Form {
-        mnemonic: "lb",
-        shapes: &[Shape::Rd, Shape::Offset],
-        makes: Makes::One(Op::Lb),
-    },
-    Form {
-        mnemonic: "lbu",
-        shapes: &[Shape::Rd, Shape::Offset],
-        makes: Makes::One(Op::Lbu),
-    },
-    Form {
-        mnemonic: "lh",
-        shapes: &[Shape::Rd, Shape::Offset],
-        makes: Makes::One(Op::Lh),
-    },
-    Form {
-        mnemonic: "lhu",
-        shapes: &[Shape::Rd, Shape::Offset],
-        makes: Makes::One(Op::Lhu),
-    },
-    Form {
-        mnemonic: "lw",
-        shapes: &[Shape::Rd, Shape::Offset],
-        makes: Makes::One(Op::Lw),
-    },
-    Form {
-        mnemonic: "lwu",
-        shapes: &[Shape::Rd, Shape::Offset],
-        makes: Makes::One(Op::Lwu),
-    },
-    Form {
-        mnemonic: "ld",
-        shapes: &[Shape::Rd, Shape::Offset],
-        makes: Makes::One(Op::Ld),
-    },
-    Form {
-        mnemonic: "sb",
-        shapes: &[Shape::Rs2, Shape::Offset],
-        makes: Makes::One(Op::Sb),
-    },
-    Form {
-        mnemonic: "sh",
-        shapes: &[Shape::Rs2, Shape::Offset],
-        makes: Makes::One(Op::Sh),
-    },
-    Form {
-        mnemonic: "sw",
-        shapes: &[Shape::Rs2, Shape::Offset],
-        makes: Makes::One(Op::Sw),
-    },
-    Form {
-        mnemonic: "sd",
-        shapes: &[Shape::Rs2, Shape::Offset],
-        makes: Makes::One(Op::Sd),
-    },
-    Form {
-        mnemonic: "fence",
-        shapes: &[Shape::Pred, Shape::Succ],
-        makes: Makes::One(Op::Fence),
-    },
-    Form {
-        mnemonic: "fence.tso",
-        shapes: &[],
-        makes: Makes::One(Op::FenceTso),
-    },
-    Form {
-        mnemonic: "ecall",
-        shapes: &[],
-        makes: Makes::One(Op::Ecall),
-    },
-    Form {
-        mnemonic: "ebreak",
-        shapes: &[],
-        makes: Makes::One(Op::Ebreak),
-    },
-    Form {
-        mnemonic: "nop",
-        shapes: &[],
-        makes: Makes::Several(PseudoKind::Nop),
-    },
-    Form {
-        mnemonic: "li",
-        shapes: &[Shape::Rd, Shape::Wide],
-        makes: Makes::Several(PseudoKind::Li),
-    },
-    Form {
-        mnemonic: "mv",
-        shapes: &[Shape::Rd, Shape::Rs1],
-        makes: Makes::Several(PseudoKind::Mv),
-    },
-    Form {
-        mnemonic: "not",
-        shapes: &[Shape::Rd, Shape::Rs1],
-        makes: Makes::Several(PseudoKind::Not),
-    },
-    Form {
-        mnemonic: "neg",
-        shapes: &[Shape::Rd, Shape::Rs1],
-        makes: Makes::Several(PseudoKind::Neg),
-    },
-    Form {
-        mnemonic: "negw",
-        shapes: &[Shape::Rd, Shape::Rs1],
-        makes: Makes::Several(PseudoKind::Negw),
-    },
-    Form {
-        mnemonic: "sext.w",
-        shapes: &[Shape::Rd, Shape::Rs1],
-        makes: Makes::Several(PseudoKind::SextW),
-    },
-    Form {
-        mnemonic: "zext.b",
-        shapes: &[Shape::Rd, Shape::Rs1],
-        makes: Makes::Several(PseudoKind::ZextB),
-    },
-    Form {
-        mnemonic: "seqz",
-        shapes: &[Shape::Rd, Shape::Rs1],
-        makes: Makes::Several(PseudoKind::Seqz),
-    },
-    Form {
-        mnemonic: "snez",
-        shapes: &[Shape::Rd, Shape::Rs1],
-        makes: Makes::Several(PseudoKind::Snez),
-    },
-    Form {
-        mnemonic: "sltz",
-        shapes: &[Shape::Rd, Shape::Rs1],
-        makes: Makes::Several(PseudoKind::Sltz),
-    },
-    Form {
-        mnemonic: "sgtz",
-        shapes: &[Shape::Rd, Shape::Rs1],
-        makes: Makes::Several(PseudoKind::Sgtz),
-    },
-    Form {
-        mnemonic: "sgt",
-        shapes: &[Shape::Rd, Shape::Rs1, Shape::Rs2],
-        makes: Makes::Several(PseudoKind::Sgt),
-    },
-    Form {
-        mnemonic: "sgtu",
-        shapes: &[Shape::Rd, Shape::Rs1, Shape::Rs2],
-        makes: Makes::Several(PseudoKind::Sgtu),
-    },
-    Form {
-        mnemonic: "beqz",
-        shapes: &[Shape::Rs1, Shape::Branch],
-        makes: Makes::Several(PseudoKind::Beqz),
-    },
-    Form {
-        mnemonic: "bnez",
-        shapes: &[Shape::Rs1, Shape::Branch],
-        makes: Makes::Several(PseudoKind::Bnez),
-    },
-    Form {
-        mnemonic: "blez",
-        shapes: &[Shape::Rs1, Shape::Branch],
-        makes: Makes::Several(PseudoKind::Blez),
-    },
-    Form {
-        mnemonic: "bgez",
-        shapes: &[Shape::Rs1, Shape::Branch],
-        makes: Makes::Several(PseudoKind::Bgez),
-    },
-    Form {
-        mnemonic: "bltz",
-        shapes: &[Shape::Rs1, Shape::Branch],
-        makes: Makes::Several(PseudoKind::Bltz),
-    },
-    Form {
-        mnemonic: "bgtz",
-        shapes: &[Shape::Rs1, Shape::Branch],
-        makes: Makes::Several(PseudoKind::Bgtz),
-    },
-    Form {
-        mnemonic: "bgt",
-        shapes: &[Shape::Rs1, Shape::Rs2, Shape::Branch],
-        makes: Makes::Several(PseudoKind::Bgt),
-    },
-    Form {
-        mnemonic: "ble",
-        shapes: &[Shape::Rs1, Shape::Rs2, Shape::Branch],
-        makes: Makes::Several(PseudoKind::Ble),
-    },
-    Form {
-        mnemonic: "bgtu",
-        shapes: &[Shape::Rs1, Shape::Rs2, Shape::Branch],
-        makes: Makes::Several(PseudoKind::Bgtu),
-    },
-    Form {
-        mnemonic: "bleu",
-        shapes: &[Shape::Rs1, Shape::Rs2, Shape::Branch],
-        makes: Makes::Several(PseudoKind::Bleu),
-    },
-    Form {
-        mnemonic: "j",
-        shapes: &[Shape::Jump],
-        makes: Makes::Several(PseudoKind::J),
-    },
-    Form {
-        mnemonic: "jal",
-        shapes: &[Shape::Jump],
-        makes: Makes::Several(PseudoKind::Jal),
-    },
-    Form {
-        mnemonic: "jr",
-        shapes: &[Shape::Rs1],
-        makes: Makes::Several(PseudoKind::Jr),
-    },
-    Form {
-        mnemonic: "jr",
-        shapes: &[Shape::Offset],
-        makes: Makes::Several(PseudoKind::JrOff),
-    },
-    Form {
-        mnemonic: "jalr",
-        shapes: &[Shape::Rs1],
-        makes: Makes::Several(PseudoKind::Jalr),
-    },
-    Form {
-        mnemonic: "jalr",
-        shapes: &[Shape::Rd, Shape::Rs1],
-        makes: Makes::Several(PseudoKind::JalrTo),
-    },
-    Form {
-        mnemonic: "jalr",
-        shapes: &[Shape::Rd, Shape::Rs1, Shape::Signed12],
-        makes: Makes::Several(PseudoKind::JalrOff),
-    },
-    Form {
-        mnemonic: "ret",
-        shapes: &[],
-        makes: Makes::Several(PseudoKind::Ret),
-    },
-    Form {
-        mnemonic: "call",
-        shapes: &[Shape::Symbol],
-        makes: Makes::Several(PseudoKind::Call),
-    },
-    Form {
-        mnemonic: "tail",
-        shapes: &[Shape::Symbol],
-        makes: Makes::Several(PseudoKind::Tail),
-    },
-    Form {
-        mnemonic: "la",
-        shapes: &[Shape::Rd, Shape::Symbol],
-        makes: Makes::Several(PseudoKind::La),
-    },
-    Form {
-        mnemonic: "lla",
-        shapes: &[Shape::Rd, Shape::Symbol],
-        makes: Makes::Several(PseudoKind::Lla),
-    },
-    Form {
-        mnemonic: "fence",
-        shapes: &[],
-        makes: Makes::Several(PseudoKind::Fence),
-    },
-    Form {
-        mnemonic: "add",
-        shapes: &[Shape::Rd, Shape::Rs1, Shape::Signed12],
-        makes: Makes::Several(PseudoKind::AddImm),
-    },
-    Form {
-        mnemonic: "and",
-        shapes: &[Shape::Rd, Shape::Rs1, Shape::Signed12],
-        makes: Makes::Several(PseudoKind::AndImm),
-    },
-    Form {
-        mnemonic: "or",
-        shapes: &[Shape::Rd, Shape::Rs1, Shape::Signed12],
-        makes: Makes::Several(PseudoKind::OrImm),
-    },
-    Form {
-        mnemonic: "xor",
-        shapes: &[Shape::Rd, Shape::Rs1, Shape::Signed12],
-        makes: Makes::Several(PseudoKind::XorImm),
-    },
-    Form {
-        mnemonic: "slt",
-        shapes: &[Shape::Rd, Shape::Rs1, Shape::Signed12],
-        makes: Makes::Several(PseudoKind::SltImm),
-    },
-    Form {
-        mnemonic: "sltu",
-        shapes: &[Shape::Rd, Shape::Rs1, Shape::Signed12],
-        makes: Makes::Several(PseudoKind::SltuImm),
-    },
-    Form {
-        mnemonic: "sll",
-        shapes: &[Shape::Rd, Shape::Rs1, Shape::Shift64],
-        makes: Makes::Several(PseudoKind::SllImm),
-    },
-    Form {
-        mnemonic: "srl",
-        shapes: &[Shape::Rd, Shape::Rs1, Shape::Shift64],
-        makes: Makes::Several(PseudoKind::SrlImm),
-    },
-    Form {
-        mnemonic: "sra",
-        shapes: &[Shape::Rd, Shape::Rs1, Shape::Shift64],
-        makes: Makes::Several(PseudoKind::SraImm),
-    },
-    Form {
-        mnemonic: "addw",
-        shapes: &[Shape::Rd, Shape::Rs1, Shape::Signed12],
-        makes: Makes::Several(PseudoKind::AddwImm),
-    },
-    Form {
-        mnemonic: "sllw",
-        shapes: &[Shape::Rd, Shape::Rs1, Shape::Shift32],
-        makes: Makes::Several(PseudoKind::SllwImm),
-    },
-    Form {
-        mnemonic: "srlw",
-        shapes: &[Shape::Rd, Shape::Rs1, Shape::Shift32],
-        makes: Makes::Several(PseudoKind::SrlwImm),
-    },
-    Form {
-        mnemonic: "sraw",
-        shapes: &[Shape::Rd, Shape::Rs1, Shape::Shift32],
-        makes: Makes::Several(PseudoKind::SrawImm),
-    },
-    Form {
-        mnemonic: "add",
-        shapes: &[Shape::Rd, Shape::Rs1, Shape::Rs2, Shape::ThreadAdd],
-        makes: Makes::Several(PseudoKind::AddTprel),
-    },
+pub const FORMS: [MnemonicForm; 117] = forms![
+    "lui": [Rd, Upper] => One(Op::Lui);
+    "auipc": [Rd, Upper] => One(Op::Auipc);
+    "addi": [Rd, Rs1, Signed12] => One(Op::Addi);
+    "slti": [Rd, Rs1, Signed12] => One(Op::Slti);
+    "sltiu": [Rd, Rs1, Signed12] => One(Op::Sltiu);
+    "xori": [Rd, Rs1, Signed12] => One(Op::Xori);
+    "ori": [Rd, Rs1, Signed12] => One(Op::Ori);
+    "andi": [Rd, Rs1, Signed12] => One(Op::Andi);
+    "addiw": [Rd, Rs1, Signed12] => One(Op::Addiw);
+    "slli": [Rd, Rs1, Shift64] => One(Op::Slli);
+    "srli": [Rd, Rs1, Shift64] => One(Op::Srli);
+    "srai": [Rd, Rs1, Shift64] => One(Op::Srai);
+    "slliw": [Rd, Rs1, Shift32] => One(Op::Slliw);
+    "srliw": [Rd, Rs1, Shift32] => One(Op::Srliw);
+    "sraiw": [Rd, Rs1, Shift32] => One(Op::Sraiw);
+    "add": [Rd, Rs1, Rs2] => One(Op::Add);
+    "sub": [Rd, Rs1, Rs2] => One(Op::Sub);
+    "slt": [Rd, Rs1, Rs2] => One(Op::Slt);
+    "sltu": [Rd, Rs1, Rs2] => One(Op::Sltu);
+    "xor": [Rd, Rs1, Rs2] => One(Op::Xor);
+    "or": [Rd, Rs1, Rs2] => One(Op::Or);
+    "and": [Rd, Rs1, Rs2] => One(Op::And);
+    "sll": [Rd, Rs1, Rs2] => One(Op::Sll);
+    "srl": [Rd, Rs1, Rs2] => One(Op::Srl);
+    "sra": [Rd, Rs1, Rs2] => One(Op::Sra);
+    "addw": [Rd, Rs1, Rs2] => One(Op::Addw);
+    "subw": [Rd, Rs1, Rs2] => One(Op::Subw);
+    "sllw": [Rd, Rs1, Rs2] => One(Op::Sllw);
+    "srlw": [Rd, Rs1, Rs2] => One(Op::Srlw);
+    "sraw": [Rd, Rs1, Rs2] => One(Op::Sraw);
+    "mul": [Rd, Rs1, Rs2] => One(Op::Mul);
+    "mulh": [Rd, Rs1, Rs2] => One(Op::Mulh);
+    "mulhsu": [Rd, Rs1, Rs2] => One(Op::Mulhsu);
+    "mulhu": [Rd, Rs1, Rs2] => One(Op::Mulhu);
+    "mulw": [Rd, Rs1, Rs2] => One(Op::Mulw);
+    "div": [Rd, Rs1, Rs2] => One(Op::Div);
+    "divu": [Rd, Rs1, Rs2] => One(Op::Divu);
+    "rem": [Rd, Rs1, Rs2] => One(Op::Rem);
+    "remu": [Rd, Rs1, Rs2] => One(Op::Remu);
+    "divw": [Rd, Rs1, Rs2] => One(Op::Divw);
+    "divuw": [Rd, Rs1, Rs2] => One(Op::Divuw);
+    "remw": [Rd, Rs1, Rs2] => One(Op::Remw);
+    "remuw": [Rd, Rs1, Rs2] => One(Op::Remuw);
+    "jal": [Rd, Jump] => One(Op::Jal);
+    "jalr": [Rd, Offset] => One(Op::Jalr);
+    "beq": [Rs1, Rs2, Branch] => One(Op::Beq);
+    "bne": [Rs1, Rs2, Branch] => One(Op::Bne);
+    "blt": [Rs1, Rs2, Branch] => One(Op::Blt);
+    "bge": [Rs1, Rs2, Branch] => One(Op::Bge);
+    "bltu": [Rs1, Rs2, Branch] => One(Op::Bltu);
+    "bgeu": [Rs1, Rs2, Branch] => One(Op::Bgeu);
+    "lb": [Rd, Offset] => One(Op::Lb);
+    "lbu": [Rd, Offset] => One(Op::Lbu);
+    "lh": [Rd, Offset] => One(Op::Lh);
+    "lhu": [Rd, Offset] => One(Op::Lhu);
+    "lw": [Rd, Offset] => One(Op::Lw);
+    "lwu": [Rd, Offset] => One(Op::Lwu);
+    "ld": [Rd, Offset] => One(Op::Ld);
+    "sb": [Rs2, Offset] => One(Op::Sb);
+    "sh": [Rs2, Offset] => One(Op::Sh);
+    "sw": [Rs2, Offset] => One(Op::Sw);
+    "sd": [Rs2, Offset] => One(Op::Sd);
+    "fence": [Pred, Succ] => One(Op::Fence);
+    "fence.tso": [] => One(Op::FenceTso);
+    "ecall": [] => One(Op::Ecall);
+    "ebreak": [] => One(Op::Ebreak);
+    "nop": [] => Several(PseudoKind::Nop);
+    "li": [Rd, Wide] => Several(PseudoKind::Li);
+    "mv": [Rd, Rs1] => Several(PseudoKind::Mv);
+    "not": [Rd, Rs1] => Several(PseudoKind::Not);
+    "neg": [Rd, Rs1] => Several(PseudoKind::Neg);
+    "negw": [Rd, Rs1] => Several(PseudoKind::Negw);
+    "sext.w": [Rd, Rs1] => Several(PseudoKind::SextW);
+    "zext.b": [Rd, Rs1] => Several(PseudoKind::ZextB);
+    "seqz": [Rd, Rs1] => Several(PseudoKind::Seqz);
+    "snez": [Rd, Rs1] => Several(PseudoKind::Snez);
+    "sltz": [Rd, Rs1] => Several(PseudoKind::Sltz);
+    "sgtz": [Rd, Rs1] => Several(PseudoKind::Sgtz);
+    "sgt": [Rd, Rs1, Rs2] => Several(PseudoKind::Sgt);
+    "sgtu": [Rd, Rs1, Rs2] => Several(PseudoKind::Sgtu);
+    "beqz": [Rs1, Branch] => Several(PseudoKind::Beqz);
+    "bnez": [Rs1, Branch] => Several(PseudoKind::Bnez);
+    "blez": [Rs1, Branch] => Several(PseudoKind::Blez);
+    "bgez": [Rs1, Branch] => Several(PseudoKind::Bgez);
+    "bltz": [Rs1, Branch] => Several(PseudoKind::Bltz);
+    "bgtz": [Rs1, Branch] => Several(PseudoKind::Bgtz);
+    "bgt": [Rs1, Rs2, Branch] => Several(PseudoKind::Bgt);
+    "ble": [Rs1, Rs2, Branch] => Several(PseudoKind::Ble);
+    "bgtu": [Rs1, Rs2, Branch] => Several(PseudoKind::Bgtu);
+    "bleu": [Rs1, Rs2, Branch] => Several(PseudoKind::Bleu);
+    "j": [Jump] => Several(PseudoKind::J);
+    "jal": [Jump] => Several(PseudoKind::Jal);
+    "jr": [Rs1] => Several(PseudoKind::Jr);
+    "jr": [Offset] => Several(PseudoKind::JrOff);
+    "jalr": [Rs1] => Several(PseudoKind::Jalr);
+    "jalr": [Rd, Rs1] => Several(PseudoKind::JalrTo);
+    "jalr": [Rd, Rs1, Signed12] => Several(PseudoKind::JalrOff);
+    "ret": [] => Several(PseudoKind::Ret);
+    "call": [Symbol] => Several(PseudoKind::Call);
+    "tail": [Symbol] => Several(PseudoKind::Tail);
+    "la": [Rd, Symbol] => Several(PseudoKind::La);
+    "lla": [Rd, Symbol] => Several(PseudoKind::Lla);
+    "fence": [] => Several(PseudoKind::Fence);
+    "add": [Rd, Rs1, Signed12] => Several(PseudoKind::AddImm);
+    "and": [Rd, Rs1, Signed12] => Several(PseudoKind::AndImm);
+    "or": [Rd, Rs1, Signed12] => Several(PseudoKind::OrImm);
+    "xor": [Rd, Rs1, Signed12] => Several(PseudoKind::XorImm);
+    "slt": [Rd, Rs1, Signed12] => Several(PseudoKind::SltImm);
+    "sltu": [Rd, Rs1, Signed12] => Several(PseudoKind::SltuImm);
+    "sll": [Rd, Rs1, Shift64] => Several(PseudoKind::SllImm);
+    "srl": [Rd, Rs1, Shift64] => Several(PseudoKind::SrlImm);
+    "sra": [Rd, Rs1, Shift64] => Several(PseudoKind::SraImm);
+    "addw": [Rd, Rs1, Signed12] => Several(PseudoKind::AddwImm);
+    "sllw": [Rd, Rs1, Shift32] => Several(PseudoKind::SllwImm);
+    "srlw": [Rd, Rs1, Shift32] => Several(PseudoKind::SrlwImm);
+    "sraw": [Rd, Rs1, Shift32] => Several(PseudoKind::SrawImm);
+    "add": [Rd, Rs1, Rs2, ThreadAdd] => Several(PseudoKind::AddTprel);
 ];

@@ -1,5 +1,8 @@
-use Rattle.rv_asm.proofs.Answer.{one_items, one_names, one_fault, not_both}
+use Rattle.rv_asm.proofs.Answer.{some_answer, one_items, one_names, one_fault, not_both}
 use Rattle.rv_asm.proofs.laws.one_answer.Goals as goal
+
+pub returns-clause-some : goal.returns-clause-some
+returns-clause-some c = some_answer
 
 pub returns-clause-items : goal.returns-clause-items
 returns-clause-items c = one_items

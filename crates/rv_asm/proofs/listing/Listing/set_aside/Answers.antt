@@ -1,7 +1,7 @@
 use Rattle.std.proofs.Common.{◌≡◌, [], ◌∷◌, ◌++◌, ◌∙◌, ap, length, Ok, Err}
 use Rattle.std.specs.Prelude.{map, OnErr}
 use Rattle.std.specs.declared.result.Result.{Result}
-use Rattle.rv_asm.specs.declared.listing.Kept.TheVariants as kept
+use Rattle.rv_asm.specs.declared.listing.ShortItem.TheVariants as kept
 use Rattle.rv_asm.specs.Listing.{kept_item}
 use Rattle.rv_asm.proofs.Aside.{set_aside, same_items}
 use Rattle.rv_asm.proofs.listing.Listing.set_aside.Goals as goal
