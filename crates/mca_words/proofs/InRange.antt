@@ -19,13 +19,13 @@ use Rattle.mca_words.specs.declared.fault.WordKind.TheVariants.{BadNumber, OutOf
 use Rattle.mca_words.specs.declared.options.Options.{Options}
 use Rattle.mca_words.specs.declared.settings.Setting.{Setting}
 use Rattle.mca_words.specs.declared.settings.Setting.TheVariants.{Input, Named}
-use Rattle.mca_words.specs.declared.table.Form.{Form}
-use Rattle.mca_words.specs.declared.table.Form.TheVariants.{FileName, MachineName, NumberUpTo, TruthValue}
+use Rattle.mca_words.specs.declared.table.ValueForm.{ValueForm}
+use Rattle.mca_words.specs.declared.table.ValueForm.TheVariants.{FileName, MachineName, NumberUpTo, TruthValue}
 use Rattle.mca_words.specs.declared.value.Value.{Value}
 use Rattle.mca_words.specs.declared.value.Value.TheVariants.{Text, Number, Truth}
 
 -- the greatest number of a form
-abbrev most_of : Option Form → ℕ
+abbrev most_of : Option ValueForm → ℕ
 most_of (Some (NumberUpTo most default)) = most
 most_of _ = 0
 
@@ -67,13 +67,13 @@ truth_within most (Some truth) value e =
     subst (IsAtMost most) same (omega arith)
 
 -- the value of a form is no number above the form's greatest
-from_text_within : (form : Form) (text : List ℕ) (value : Value) → value_of_text form text ≡ Ok value → IsAtMost (most_of (Some form)) value
+from_text_within : (form : ValueForm) (text : List ℕ) (value : Value) → value_of_text form text ≡ Ok value → IsAtMost (most_of (Some form)) value
 from_text_within FileName text value e = text_within 0 text value e
 from_text_within MachineName text value e = machine_within 0 text value e
 from_text_within (NumberUpTo most default) text value e = number_within most text value e
 from_text_within (TruthValue default) text value e = truth_within 0 (truth_of text) value e
 
-value_within : (form : Form) (text : Option (List ℕ)) (value : Value) → value_of form text ≡ Ok value → IsAtMost (most_of (Some form)) value
+value_within : (form : ValueForm) (text : Option (List ℕ)) (value : Value) → value_of form text ≡ Ok value → IsAtMost (most_of (Some form)) value
 value_within (TruthValue default) None value e = truth_within 0 (Some true) value e
 value_within (TruthValue default) (Some text) value e = truth_within 0 (truth_of text) value e
 value_within form None value e = absurd cc
@@ -98,7 +98,7 @@ named_within most settings name (Ok value) x within e = go (has_other_machine se
         let same : Named name value ≡ x = cc in
         subst (λ y. AreWithin most (y ∷ [])) same (one_within most name value (within value refl))
 
-option_within : (most : List ℕ → ℕ) (settings : List Setting) (name : List ℕ) (text : Option (List ℕ)) (form : Option Form) (x : Setting) → most name ≡ most_of form → option_set settings name text form ≡ Ok x → AreWithin most (x ∷ [])
+option_within : (most : List ℕ → ℕ) (settings : List Setting) (name : List ℕ) (text : Option (List ℕ)) (form : Option ValueForm) (x : Setting) → most name ≡ most_of form → option_set settings name text form ≡ Ok x → AreWithin most (x ∷ [])
 option_within most settings name text None x is e = absurd cc
 option_within most settings name text (Some form) x is e = go (stands settings name) e
   where

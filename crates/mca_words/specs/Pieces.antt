@@ -3,8 +3,8 @@ use Rattle.std.specs.Prelude.{List, [], ◌∷◌, ℕ, ◌+◌, Bool, true, fal
 use Rattle.std.specs.List.{starts_with, before_first, after_first, position_or_len}
 use Rattle.std.specs.Option.{option_or}
 use Rattle.std.specs.declared.option.Option.{Option}
-use Rattle.mca_words.specs.declared.table.Form.{Form}
-use Rattle.mca_words.specs.declared.table.Form.TheVariants.{TruthValue}
+use Rattle.mca_words.specs.declared.table.ValueForm.{ValueForm}
+use Rattle.mca_words.specs.declared.table.ValueForm.TheVariants.{TruthValue}
 use Rattle.mca_words.specs.Table.{form_of}
 
 -- a word, its number from 1, and the next word where that is its value
@@ -31,7 +31,7 @@ abbrev pub own_value : List ℕ → Option (List ℕ)
 own_value word = if nat_lt (position_or_len is_equals word) (length word) then Some (after_first is_equals word) else None
 
 -- an option of this form takes the next word as its value
-abbrev pub takes_word : Option Form → Bool
+abbrev pub takes_word : Option ValueForm → Bool
 takes_word None = false
 takes_word (Some (TruthValue default)) = false
 takes_word (Some form) = true

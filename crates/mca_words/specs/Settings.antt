@@ -8,7 +8,7 @@ use Rattle.mca_words.specs.declared.fault.WordKind.{WordKind}
 use Rattle.mca_words.specs.declared.fault.WordKind.TheVariants.{UnknownOption, Repeated, TwoMachines, TooManyInputs}
 use Rattle.mca_words.specs.declared.settings.Setting.{Setting}
 use Rattle.mca_words.specs.declared.settings.Setting.TheVariants.{Input, Named}
-use Rattle.mca_words.specs.declared.table.Form.{Form}
+use Rattle.mca_words.specs.declared.table.ValueForm.{ValueForm}
 use Rattle.mca_words.specs.declared.value.Value.{Value}
 use Rattle.mca_words.specs.Pieces.{Piece, is_option, name_of, given_value}
 use Rattle.mca_words.specs.Table.{form_of}
@@ -36,7 +36,7 @@ named settings name (Err kind) = Err kind
 named settings name (Ok value) = if has_other_machine settings name then Err TwoMachines else Ok (Named name value)
 
 -- what an option sets, or its first fault
-abbrev pub option_set : List Setting → List ℕ → Option (List ℕ) → Option Form → Result Setting WordKind
+abbrev pub option_set : List Setting → List ℕ → Option (List ℕ) → Option ValueForm → Result Setting WordKind
 option_set settings name value None = Err UnknownOption
 option_set settings name value (Some form) = if stands settings name then Err Repeated else named settings name (value_of form value)
 

@@ -7,8 +7,8 @@ use Rattle.std.specs.declared.option.Option.{Option}
 use Rattle.std.specs.declared.result.Result.{Result}
 use Rattle.mca_words.specs.declared.fault.WordKind.{WordKind}
 use Rattle.mca_words.specs.declared.fault.WordKind.TheVariants.{MissingValue, BadNumber, OutOfRange, UnknownMachine}
-use Rattle.mca_words.specs.declared.table.Form.{Form}
-use Rattle.mca_words.specs.declared.table.Form.TheVariants.{FileName, MachineName, NumberUpTo, TruthValue}
+use Rattle.mca_words.specs.declared.table.ValueForm.{ValueForm}
+use Rattle.mca_words.specs.declared.table.ValueForm.TheVariants.{FileName, MachineName, NumberUpTo, TruthValue}
 use Rattle.mca_words.specs.declared.value.Value.{Value}
 use Rattle.mca_words.specs.declared.value.Value.TheVariants.{Text, Number, Truth}
 
@@ -49,14 +49,14 @@ truth_value None = Err BadNumber
 truth_value (Some truth) = Ok (Truth truth)
 
 -- the value of a form that needs one, read from a text that is not empty
-abbrev pub value_of_text : Form → List ℕ → Result Value WordKind
+abbrev pub value_of_text : ValueForm → List ℕ → Result Value WordKind
 value_of_text FileName text = Ok (Text text)
 value_of_text MachineName text = machine_value text
 value_of_text (NumberUpTo most default) text = number_value most text
 value_of_text (TruthValue default) text = truth_value (truth_of text)
 
 -- the value of an option, or the first fault of its value; a truth without a value is true
-abbrev pub value_of : Form → Option (List ℕ) → Result Value WordKind
+abbrev pub value_of : ValueForm → Option (List ℕ) → Result Value WordKind
 value_of (TruthValue default) None = Ok (Truth true)
 value_of (TruthValue default) (Some text) = truth_value (truth_of text)
 value_of form None = Err MissingValue

@@ -1,8 +1,10 @@
 //! What holds of the answers to a command line, apart from how it is read.
-ghost use Rattle.std.specs.Prelude.{◌≡◌, List, ℕ, Result, Ok};
+ghost use Rattle.std.specs.Prelude.{◌≡◌, List, [], ℕ, Result, Ok, false};
 ghost use Rattle.mca_words.specs.Answer.{answer_of};
 ghost use Rattle.mca_words.specs.FirstFault.{IsAnswer};
 ghost use Rattle.mca_words.specs.InRange.{AreInRange};
+ghost use Rattle.mca_words.specs.Options.{options_of};
+ghost use Rattle.mca_words.specs.Unbuilt.{is_unbuilt};
 ghost use Rattle.mca_words.specs.declared.fault.WordFault.{WordFault as FaultOf};
 ghost use Rattle.mca_words.specs.declared.options.Options.{Options as OptionsOf};
 
@@ -17,4 +19,10 @@ pub fn one_answer()
 /// in the ranges of `Options`.
 pub fn options_in_range()
     ensures { (words : List (List ℕ)) (o : OptionsOf) → answer_of words ≡ Ok o → AreInRange o }
+{}
+
+/// A law about the definitions: where no option is given, none asks for what is not built.
+#[tactic(auto, unfolding(crate::specs::Unbuilt::is_unbuilt))]
+pub fn defaults_are_built()
+    ensures { is_unbuilt (options_of []) ≡ false }
 {}

@@ -9,7 +9,7 @@ ghost use Rattle.mca_words.specs.Pieces.{piece};
 ghost use Rattle.mca_words.specs.Settings.{is_input, is_named, stands, has_other_machine, named, option_set, input_set, set_by};
 
 use crate::fault::WordKind;
-use crate::table::{self, Form};
+use crate::table::{self, ValueForm};
 use crate::value::{self, Value};
 use crate::word;
 use mca_fixed::{Name, NoMemory, Text};
@@ -89,7 +89,7 @@ fn option_set(
     settings: &[Setting],
     name: &[u8],
     text: Option<&str>,
-    form: Option<Form>,
+    form: Option<ValueForm>,
 ) -> Result<Setting, WordKind>
     ensures { Gives (option_set settings.now name.now (option_copied text.entry) form) result }
 {

@@ -8,7 +8,7 @@ ghost use Rattle.mca_words.specs.Gives.{Gives};
 ghost use Rattle.mca_words.specs.Values.{is_machine, is_number, number_from, number_of, truth_of, machine_value, number_value, truth_value, value_of_text, value_of};
 
 use crate::fault::WordKind;
-use crate::table::Form;
+use crate::table::ValueForm;
 use mca_fixed::Text;
 use std::alloc::Global;
 
@@ -122,24 +122,28 @@ fn truth_value(text: &[u8]) -> Result<Value, WordKind>
     }
 }
 
-fn value_of_text(alloc: Global, form: Form, text: &str) -> Result<Value, WordKind>
+fn value_of_text(alloc: Global, form: ValueForm, text: &str) -> Result<Value, WordKind>
     ensures { Gives (value_of_text form text.now) result }
 {
     match form {
-        Form::FileName => text_value(alloc, text),
-        Form::MachineName => machine_value(alloc, text),
-        Form::NumberUpTo(most, _) => number_value(most, text.as_bytes()),
-        Form::TruthValue(_) => truth_value(text.as_bytes()),
+        ValueForm::FileName => text_value(alloc, text),
+        ValueForm::MachineName => machine_value(alloc, text),
+        ValueForm::NumberUpTo(most, _) => number_value(most, text.as_bytes()),
+        ValueForm::TruthValue(_) => truth_value(text.as_bytes()),
     }
 }
 
 /// The value of an option, or the first fault of its value.
-pub(crate) fn value_of(alloc: Global, form: Form, text: Option<&str>) -> Result<Value, WordKind>
+pub(crate) fn value_of(
+    alloc: Global,
+    form: ValueForm,
+    text: Option<&str>,
+) -> Result<Value, WordKind>
     ensures { Gives (value_of form (option_copied text.entry)) result }
 {
     match (form, text) {
-        (Form::TruthValue(_), None) => Ok(Value::Truth(true)),
-        (Form::TruthValue(_), Some(text)) => truth_value(text.as_bytes()),
+        (ValueForm::TruthValue(_), None) => Ok(Value::Truth(true)),
+        (ValueForm::TruthValue(_), Some(text)) => truth_value(text.as_bytes()),
         (_, None) => Err(WordKind::MissingValue),
         (_, Some(text)) => {
             if text.is_empty() {

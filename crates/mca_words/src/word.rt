@@ -5,7 +5,7 @@ ghost use Rattle.std.specs.Option.{option_copied};
 ghost use Rattle.mca_words.specs.Pieces.{is_option, without_dashes, name_of, own_value, takes_word, awaits_value};
 ghost use Rattle.mca_words.specs.Table.{form_of};
 
-use crate::table::{self, Form};
+use crate::table::{self, ValueForm};
 
 /// Whether the word is an option; it is an input otherwise.
 pub(crate) fn is_option(word: &str) -> bool
@@ -46,11 +46,11 @@ pub(crate) fn own_value(word: &str) -> Option<&str>
     }
 }
 
-fn takes_word(form: Option<Form>) -> bool
+fn takes_word(form: Option<ValueForm>) -> bool
     ensures { result ≡ takes_word form }
 {
     match form {
-        None | Some(Form::TruthValue(_)) => false,
+        None | Some(ValueForm::TruthValue(_)) => false,
         Some(_) => true,
     }
 }
