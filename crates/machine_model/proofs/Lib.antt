@@ -1,2 +1,3 @@
+mod FixedOwners
 mod Masks
 mod UseOrder

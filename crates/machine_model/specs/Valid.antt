@@ -1,6 +1,7 @@
 -- The law that every machine keeps: its ranges, and what the engines and the reports rest on.
-use Rattle.std.specs.Prelude.{◌≡◌, ℕ, ◌<◌, ◌≤◌, pos, neg_ℤ, int_le, length, take, slice_index, slice_index_or, true, Some}
+use Rattle.std.specs.Prelude.{◌≡◌, ℕ, ◌<◌, ◌≤◌, pos, neg_ℤ, int_le, length, take, slice_index, slice_index_or, Bool, true, false, Some, None}
 use Rattle.rv_isa.specs.declared.op.Op.{Op}
+use Rattle.machine_model.specs.declared.answers.TheConstants.{NO_CLASS}
 use Rattle.machine_model.specs.declared.answers.Binding.{Binding}
 use Rattle.machine_model.specs.declared.answers.ClassAnswer.TheVariants.{Class}
 use Rattle.machine_model.specs.declared.answers.UnitOwner.{UnitOwner}
@@ -14,7 +15,7 @@ use Rattle.machine_model.specs.Uses.{units_of, share_unit, can_be_met}
 
 -- how a read class is written that there is not
 abbrev pub no_class : ℕ
-no_class = 65535
+no_class = NO_CLASS
 
 -- the ranges of what the command line changes
 pub record IsTuning (width in_flight load_entries store_entries : ℕ) : Type 0 where
@@ -74,6 +75,12 @@ pub record IsOwner (m : MachineMeaning) (u : ℕ) (o : UnitOwner) : Type 0 where
   pub resource : o.resource < m.resource_count
   pub has : m.units o.resource u ≡ true
   pub place : o.place ≡ count_below u (m.units o.resource)
+
+-- a unit has an owner exactly where a resource that is no group has it
+pub record HaveOwners (m : MachineMeaning) (is_group : ℕ → Bool) : Type 0 where
+  pub some : (u : ℕ) (o : UnitOwner) → m.owner u ≡ Some o
+      → (o.resource < m.resource_count) × (is_group o.resource ≡ false) × (m.units o.resource u ≡ true)
+  pub none : (u r : ℕ) → m.owner u ≡ None → r < m.resource_count → is_group r ≡ false → m.units r u ≡ false
 
 pub record IsValidMachine (numbers size : ℕ) (m : MachineMeaning) : Type 0 where
   pub limits : AreLimits m.limits

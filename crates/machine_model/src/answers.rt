@@ -1,5 +1,8 @@
 //! What a machine answers of an opcode and of a unit.
 
+/// How a class of reads is written where there is none.
+pub const NO_CLASS: u16 = 65_535;
+
 /// The resource that a unit belongs to.
 #[derive(Clone, Copy, Debug, PartialEq, Eq)]
 pub struct UnitOwner {
@@ -14,7 +17,7 @@ pub struct UnitOwner {
 pub struct Binding {
     /// The class of its write.
     pub write: u16,
-    /// The classes of its reads of rs1 and rs2; 65,535 for none.
+    /// The classes of its reads of rs1 and rs2; `NO_CLASS` for none.
     pub reads: [u16; 2],
 }
 

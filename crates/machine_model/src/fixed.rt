@@ -2,7 +2,7 @@
 ghost use Rattle.std.specs.Prelude.{◌≡◌};
 ghost use Rattle.machine_model.specs.Fixed.{AreSizes, fixed_meaning, fixed_write, given_or, one_use};
 
-use crate::answers::{Binding, ClassAnswer, UnitOwner};
+use crate::answers::{Binding, ClassAnswer, NO_CLASS, UnitOwner};
 use crate::facts::{FileShare, Use, WriteFacts};
 use crate::limits::Limits;
 use crate::machine::Machine;
@@ -187,7 +187,7 @@ impl<const W: usize, const R: usize, const U: usize> Machine for Fixed<W, R, U> 
     fn class_of(&self, op: Op) -> ClassAnswer {
         ClassAnswer::Class(Binding {
             write: write_of(op),
-            reads: [65535, 65535],
+            reads: [NO_CLASS, NO_CLASS],
         })
     }
 

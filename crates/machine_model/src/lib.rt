@@ -12,10 +12,10 @@ mod limits;
 mod machine;
 mod tuning;
 
-pub use answers::{Binding, ClassAnswer, UnitOwner};
+pub use answers::{Binding, ClassAnswer, NO_CLASS, UnitOwner};
 pub use facts::{FileShare, Use, WriteFacts};
 pub use fixed::{Dual, Fixed, Quad, Tiny};
-pub use laws::one_use_order;
+pub use laws::{one_use_order, unit_owners};
 pub use limits::Limits;
 pub use machine::Machine;
 pub use rv_isa::Kind;

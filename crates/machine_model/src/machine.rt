@@ -3,7 +3,7 @@ ghost use Rattle.std.specs.Prelude.{◌≡◌, ℕ, ◌<◌, ◌⊎◌};
 ghost use Rattle.machine_model.specs.Meaning.{MachineMeaning};
 ghost use Rattle.machine_model.specs.Valid.{IsValidMachine};
 
-use crate::answers::{ClassAnswer, UnitOwner};
+use crate::answers::{ClassAnswer, NO_CLASS, UnitOwner};
 use crate::facts::{FileShare, WriteFacts};
 use crate::limits::Limits;
 use rv_isa::{Op, Reg};
@@ -83,9 +83,9 @@ pub trait Machine {
         ensures { result ≡ (meaning self.now).class k };
 
     /// By how many cycles a read of a class comes before the completion of a write of a class, -1,000 to
-    /// 1,000; 0 for 65,535, which is no read class.
+    /// 1,000; 0 for `NO_CLASS`.
     fn advance(&self, read: u16, write: u16) -> i32
-        requires read { (read < (meaning self.now).read_count) ⊎ (read ≡ 65535) }
+        requires read { (read < (meaning self.now).read_count) ⊎ (read ≡ NO_CLASS) }
         requires write { write < (meaning self.now).write_count }
         ensures { result ≡ (meaning self.now).advance read write };
 
