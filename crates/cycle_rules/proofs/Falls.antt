@@ -6,7 +6,7 @@ use Rattle.cycle_rules.specs.Below.{Least}
 use Rattle.cycle_rules.specs.Schedule.{Fall, Known, key, seen, event, FallsFirst, IsFirst, IsSchedule}
 use Rattle.cycle_rules.specs.Row.{Input, Table, phase}
 use Rattle.cycle_rules.specs.Pick.{pick, padded}
-use Rattle.cycle_rules.specs.Issue.{can_leave}
+use Rattle.cycle_rules.specs.Issue.{can_issue}
 use Rattle.cycle_rules.specs.Retire.{can_retire}
 use Rattle.cycle_rules.specs.Events.{events, cycle_or, units_or_none, in_cycle, may_fall, units_taken, rules_of}
 use Rattle.cycle_rules.proofs.TableEvents.{events_of, sees_events, IsKept, IsEventIssue, IsEventRow}
@@ -35,7 +35,7 @@ row_issue : (g : Input) (t : Table) (bound j : ℕ) → IsSchedule (rules_of g) 
 row_issue g t bound j h kept lt true is = kept.together is
 row_issue g t bound j h kept lt false is =
     let falls : events_of g t (event g.rows 1 j) ≡ Some (record { cycle = (t j).issue; what = (t j).units }) = event_of_row g t 1 j (omega arith) lt ∙ choose_false (g.row j).reserved _ _ is in
-    least_along _ _ (t j).issue (λ c. ap (λ b. not b && can_leave g (sees_events g t 1 j c) j c) is) (least_of g bound (events_of g t) 1 j (record { cycle = (t j).issue; what = (t j).units }) h (omega arith) lt falls)
+    least_along _ _ (t j).issue (λ c. ap (λ b. not b && can_issue g (sees_events g t 1 j c) j c) is) (least_of g bound (events_of g t) 1 j (record { cycle = (t j).issue; what = (t j).units }) h (omega arith) lt falls)
 
 row_units : (g : Input) (t : Table) (bound j : ℕ) → IsSchedule (rules_of g) (events g) bound (events_of g t) → IsKept (g.row j) (t j) → j < g.rows → (b : Bool) → (g.row j).reserved ≡ b
     → (t j).units ≡ padded (pick g (sees_events g t (phase (g.row j)) j (t j).issue) j (t j).issue)
@@ -92,8 +92,8 @@ pub retire_needs : (g : Input) (known : Known (List ℕ)) (j c : ℕ) → can_re
 unfolding can_retire
 retire_needs g known j c can none = not_after c (g.row j).latency (sym (ap (λ o. nat_lt (cycle_or (c + 1) o + (g.row j).latency) c) (known_none g known (phase (g.row j)) j none)) ∙ first_true _ _ (first_true _ _ can))
 
-pub leave_needs : (g : Input) (known : Known (List ℕ)) (j c : ℕ) → can_leave g (in_cycle g c known) j c ≡ true → known (event g.rows 2 j) ≡ None → ⊥
-unfolding can_leave
+pub leave_needs : (g : Input) (known : Known (List ℕ)) (j c : ℕ) → can_issue g (in_cycle g c known) j c ≡ true → known (event g.rows 2 j) ≡ None → ⊥
+unfolding can_issue
 leave_needs g known j c can none = not_next c (sym (ap (λ o. nat_lt (cycle_or (c + 1) o) c) (known_none g known 2 j none)) ∙ first_true _ _ can)
 
 -- an event that falls

@@ -1,6 +1,8 @@
 pub mod WorkedRuns
 pub mod PassesRun
 pub mod Counts
+pub mod Sums
+pub mod Tests
 pub mod Unique
 pub mod Exists
 pub mod TableEvents
@@ -9,3 +11,12 @@ pub mod Sees
 pub mod OneRun
 pub mod Falls
 pub mod RunBelow
+pub mod RunCut
+pub mod BoundRows
+pub mod BoundLow
+pub mod UnitsEnd
+pub mod UnitsFound
+pub mod UnitRows
+pub mod AllOver
+pub mod Quiet
+pub mod RunEnds

@@ -7,7 +7,7 @@ use Rattle.cycle_rules.specs.Below.{Least, sum_below}
 use Rattle.cycle_rules.specs.Schedule.{Fall, Known, key, seen, event, FallsFirst, IsFirst, IsSchedule}
 use Rattle.cycle_rules.specs.Row.{Input, Table, phase, times, no_times}
 use Rattle.cycle_rules.specs.Pick.{pick, padded}
-use Rattle.cycle_rules.specs.Issue.{can_leave}
+use Rattle.cycle_rules.specs.Issue.{can_issue}
 use Rattle.cycle_rules.specs.Events.{events, may_fall, units_taken, rules_of}
 use Rattle.cycle_rules.specs.Run.{IsRunOf}
 use Rattle.cycle_rules.proofs.TableEvents.{event_in, events_of, sees_events, IsEventIssue, IsEventRow, IsWithin}
@@ -31,7 +31,7 @@ falls_first g t p j bound f lt within least what = record {
 }
 
 never_allowed : (g : Input) (t : Table) (j bound : ℕ) → j < g.rows → (g.row j).reserved ≡ true → IsFirst (rules_of g) (events g) bound (events_of g t) (event g.rows 1 j) None
-never_allowed g t j bound lt is = λ c within. allowed_at g (at_event g t 1 j c) c 1 j lt ∙ ap (λ b. not b && can_leave g (sees_events g t 1 j c) j c) is
+never_allowed g t j bound lt is = λ c within. allowed_at g (at_event g t 1 j c) c 1 j lt ∙ ap (λ b. not b && can_issue g (sees_events g t 1 j c) j c) is
 
 issue_first : (g : Input) (t : Table) (j bound : ℕ) → j < g.rows → (t j).issue < bound → IsEventRow g t j → (b : Bool) → (g.row j).reserved ≡ b
     → IsFirst (rules_of g) (events g) bound (events_of g t) (event g.rows 1 j) (if b then None else Some (record { cycle = (t j).issue; what = (t j).units }))
@@ -40,7 +40,7 @@ issue_first g t j bound lt within row false is =
     let one : phase (g.row j) ≡ 1 = phase_free (g.row j) is in
     let issue : IsEventIssue g t j false = subst (IsEventIssue g t j) is row.issue in
     falls_first g t 1 j bound (record { cycle = (t j).issue; what = (t j).units }) lt within
-    (least_along _ _ (t j).issue (λ c. sym (ap (λ b. not b && can_leave g (sees_events g t 1 j c) j c) is)) issue)
+    (least_along _ _ (t j).issue (λ c. sym (ap (λ b. not b && can_issue g (sees_events g t 1 j c) j c) is)) issue)
     (subst (λ p. (t j).units ≡ padded (pick g (sees_events g t p j (t j).issue) j (t j).issue)) one row.units ∙ sym (takes_units g (at_event g t 1 j (t j).issue) (t j).issue 1 j (sym one)))
 
 dispatch_takes : (g : Input) (t : Table) (j : ℕ) → IsEventRow g t j → (b : Bool) → (g.row j).reserved ≡ b
@@ -80,7 +80,7 @@ term_le (suc n) f j lt = elim (cases_lt j n) [ inl low ↦ omega (arith, term_le
 abbrev pub above : Input → Table → ℕ
 above g t = suc (sum_below g.rows (λ j. (t j).dispatch + (t j).issue + (t j).retire))
 
-within_above : (g : Input) (t : Table) (bound : ℕ) → above g t ≤ bound → IsWithin g t bound
+pub within_above : (g : Input) (t : Table) (bound : ℕ) → above g t ≤ bound → IsWithin g t bound
 within_above g t bound le = record {
   dispatch = λ j lt. omega (arith, term_le g.rows (λ j. (t j).dispatch + (t j).issue + (t j).retire) j lt);
   issue = λ j lt. omega (arith, term_le g.rows (λ j. (t j).dispatch + (t j).issue + (t j).retire) j lt);

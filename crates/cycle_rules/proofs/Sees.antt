@@ -8,9 +8,9 @@ use Rattle.cycle_rules.specs.Schedule.{Fall, Known, key, if_before, seen, event}
 use Rattle.cycle_rules.specs.Row.{Input, Table, phase}
 use Rattle.cycle_rules.specs.Pick.{pick, padded}
 use Rattle.cycle_rules.specs.Dispatch.{can_dispatch}
-use Rattle.cycle_rules.specs.Issue.{can_leave}
+use Rattle.cycle_rules.specs.Issue.{can_issue}
 use Rattle.cycle_rules.specs.Retire.{can_retire}
-use Rattle.cycle_rules.specs.Seen.{comes_before, is_seen, has_issued, sees}
+use Rattle.cycle_rules.specs.Seen.{key_at, comes_before, is_seen, has_issued, sees}
 use Rattle.cycle_rules.specs.Run.{IsIssue, IsRow}
 use Rattle.cycle_rules.specs.Events.{events, cycle_or, units_or_none, known_of}
 use Rattle.cycle_rules.proofs.TableEvents.{events_of, sees_events, IsKept, IsEventIssue, IsEventRow}
@@ -37,7 +37,7 @@ known_none g known q k none = nothing (nat_lt k g.rows) (known (event g.rows q k
     nothing false o e = refl
 
 -- the keys are in the order of cycle, phase and row
-pub key_order : (g : Input) (b q k c p j : ℕ) → q < 3 → p < 3 → k < g.rows → j < g.rows → nat_lt (at_key g b q k) (at_key g c p j) ≡ comes_before b q k c p j
+pub key_order : (g : Input) (b q k c p j : ℕ) → q < 3 → p < 3 → k < g.rows → j < g.rows → nat_lt (at_key g b q k) (at_key g c p j) ≡ comes_before (key_at b q k) (key_at c p j)
 unfolding comes_before
 key_order g b q k c p j three_q three_p lk lj =
     let row_q : event g.rows q k < events g = event_below g q k three_q lk in
@@ -65,10 +65,10 @@ key_order g b q k c p j three_q three_p lk lj =
 
 -- an event of a table is seen at a key where it comes before it
 seen_event : (g : Input) (t : Table) (p j c q k : ℕ) (f : Fall (List ℕ)) → p < 3 → q < 3 → j < g.rows → (k < g.rows → events_of g t (event g.rows q k) ≡ Some f)
-    → known_of g (seen (events g) (at_key g c p j) (events_of g t)) q k ≡ (if is_seen g f.cycle q k c p j then Some f else None)
+    → known_of g (seen (events g) (at_key g c p j) (events_of g t)) q k ≡ (if is_seen g (key_at f.cycle q k) (key_at c p j) then Some f else None)
 seen_event g t p j c q k f three_p three_q lj is = elim (cases_lt k g.rows) [ inl low ↦ in_run low | inr high ↦ outside high ]
   where
-    in_run : k < g.rows → known_of g (seen (events g) (at_key g c p j) (events_of g t)) q k ≡ (if is_seen g f.cycle q k c p j then Some f else None)
+    in_run : k < g.rows → known_of g (seen (events g) (at_key g c p j) (events_of g t)) q k ≡ (if is_seen g (key_at f.cycle q k) (key_at c p j) then Some f else None)
     in_run lk =
         let below : event g.rows q k < events g = event_below g q k three_q lk in
         let event_test : nat_lt (event g.rows q k) (events g) ≡ true = grind (arith, nat_tests, below) in
@@ -76,12 +76,12 @@ seen_event g t p j c q k f three_p three_q lj is = elim (cases_lt k g.rows) [ in
         known_in g (seen (events g) (at_key g c p j) (events_of g t)) q k lk
         ∙ choose_true (nat_lt (event g.rows q k) (events g)) _ _ event_test
         ∙ ap (if_before (events g) (at_key g c p j) (event g.rows q k)) (is lk)
-        ∙ ap (λ b. if b then Some f else None) (key_order g f.cycle q k c p j three_q three_p lk lj ∙ ap (λ b. b && comes_before f.cycle q k c p j) (sym row_test))
+        ∙ ap (λ b. if b then Some f else None) (key_order g f.cycle q k c p j three_q three_p lk lj ∙ ap (λ b. b && comes_before (key_at f.cycle q k) (key_at c p j)) (sym row_test))
 
-    outside : g.rows ≤ k → known_of g (seen (events g) (at_key g c p j) (events_of g t)) q k ≡ (if is_seen g f.cycle q k c p j then Some f else None)
+    outside : g.rows ≤ k → known_of g (seen (events g) (at_key g c p j) (events_of g t)) q k ≡ (if is_seen g (key_at f.cycle q k) (key_at c p j) then Some f else None)
     outside high =
         let row_test : nat_lt k g.rows ≡ false = grind (arith, nat_tests, high) in
-        choose_false (nat_lt k g.rows) _ _ row_test ∙ ap (λ b. if b && comes_before f.cycle q k c p j then Some f else None) (sym row_test)
+        choose_false (nat_lt k g.rows) _ _ row_test ∙ ap (λ b. if b && comes_before (key_at f.cycle q k) (key_at c p j) then Some f else None) (sym row_test)
 
 -- the event by which a row issues
 issue_event : (g : Input) (t : Table) (k : ℕ) → IsKept (g.row k) (t k) → k < g.rows → (b : Bool) → (g.row k).reserved ≡ b
@@ -118,11 +118,11 @@ seen_row false b e = cc
 -- what a row sees by the definition and by the events
 pub sees_same : (g : Input) (t : Table) (p j c : ℕ) → p < 3 → j < g.rows → ((k : ℕ) → k < g.rows → IsKept (g.row k) (t k)) → sees_events g t p j c ≡ sees g t p j c
 sees_same g t p j c three lj kept = λ i k. record {
-  dispatch = (ap (cycle_or (c + 1)) (dispatch_seen k) ∙ read_cycle (c + 1) (dispatch_fall k) (is_seen g (t k).dispatch 2 k c p j)) i;
+  dispatch = (ap (cycle_or (c + 1)) (dispatch_seen k) ∙ read_cycle (c + 1) (dispatch_fall k) (is_seen g (key_at (t k).dispatch 2 k) (key_at c p j))) i;
   issue = (ap (cycle_or (c + 1)) (issue_seen k) ∙ read_cycle (c + 1) (issue_fall k) (has_issued g t k c p j)) i;
   complete = (ap (λ o. cycle_or (c + 1) o + (g.row k).latency) (issue_seen k)
       ∙ read_complete (c + 1) (g.row k).latency (t k).complete (issue_fall k) (has_issued g t k c p j) (λ yes_seen. (kept k (row_of_seen k yes_seen)).complete)) i;
-  retire = (ap (cycle_or (c + 1)) (retire_seen k) ∙ read_cycle (c + 1) (retire_fall k) (is_seen g (t k).retire 0 k c p j)) i;
+  retire = (ap (cycle_or (c + 1)) (retire_seen k) ∙ read_cycle (c + 1) (retire_fall k) (is_seen g (key_at (t k).retire 0 k) (key_at c p j))) i;
   units = (ap units_or_none (issue_seen k) ∙ read_units (issue_fall k) (has_issued g t k c p j)) i;
 }
   where
@@ -138,13 +138,13 @@ sees_same g t p j c three lj kept = λ i k. record {
     row_of_seen : (k : ℕ) → has_issued g t k c p j ≡ true → k < g.rows
     row_of_seen k h = let low : nat_lt k g.rows ≡ true = seen_row _ _ h in grind (arith, nat_tests, low)
 
-    dispatch_seen : (k : ℕ) → known_of g (seen (events g) (at_key g c p j) (events_of g t)) 2 k ≡ (if is_seen g (t k).dispatch 2 k c p j then Some (dispatch_fall k) else None)
+    dispatch_seen : (k : ℕ) → known_of g (seen (events g) (at_key g c p j) (events_of g t)) 2 k ≡ (if is_seen g (key_at (t k).dispatch 2 k) (key_at c p j) then Some (dispatch_fall k) else None)
     dispatch_seen k = seen_event g t p j c 2 k (dispatch_fall k) three (omega arith) lj (λ lk. event_of_row g t 2 k (omega arith) lk)
 
     issue_seen : (k : ℕ) → known_of g (seen (events g) (at_key g c p j) (events_of g t)) (phase (g.row k)) k ≡ (if has_issued g t k c p j then Some (issue_fall k) else None)
     issue_seen k = seen_event g t p j c (phase (g.row k)) k (issue_fall k) three (phase_low g k (g.row k).reserved refl) lj (λ lk. issue_event g t k (kept k lk) lk (g.row k).reserved refl)
 
-    retire_seen : (k : ℕ) → known_of g (seen (events g) (at_key g c p j) (events_of g t)) 0 k ≡ (if is_seen g (t k).retire 0 k c p j then Some (retire_fall k) else None)
+    retire_seen : (k : ℕ) → known_of g (seen (events g) (at_key g c p j) (events_of g t)) 0 k ≡ (if is_seen g (key_at (t k).retire 0 k) (key_at c p j) then Some (retire_fall k) else None)
     retire_seen k = seen_event g t p j c 0 k (retire_fall k) three (omega arith) lj (λ lk. event_of_row g t 0 k (omega arith) lk)
 
 -- so a table is a run by the definition where it is one by its events
@@ -154,11 +154,11 @@ kept_row g t j row = record { together = λ is. subst (IsIssue g t j) is row.iss
 
 issue_along : (g : Input) (t : Table) (j : ℕ) → ((c : ℕ) → sees g t 1 j c ≡ sees_events g t 1 j c) → (b : Bool) → IsIssue g t j b → IsEventIssue g t j b
 issue_along g t j same true is = is
-issue_along g t j same false least = least_along _ _ (t j).issue (λ c. ap (λ s. can_leave g s j c) (same c)) least
+issue_along g t j same false least = least_along _ _ (t j).issue (λ c. ap (λ s. can_issue g s j c) (same c)) least
 
 issue_back : (g : Input) (t : Table) (j : ℕ) → ((c : ℕ) → sees_events g t 1 j c ≡ sees g t 1 j c) → (b : Bool) → IsEventIssue g t j b → IsIssue g t j b
 issue_back g t j same true is = is
-issue_back g t j same false least = least_along _ _ (t j).issue (λ c. ap (λ s. can_leave g s j c) (same c)) least
+issue_back g t j same false least = least_along _ _ (t j).issue (λ c. ap (λ s. can_issue g s j c) (same c)) least
 
 pub event_rows : (g : Input) (t : Table) → ((j : ℕ) → j < g.rows → IsRow g t j) → (j : ℕ) → j < g.rows → IsEventRow g t j
 event_rows g t run j lt = record {

@@ -5,7 +5,7 @@ use Rattle.cycle_rules.specs.Schedule.{Fall, Known, key, seen, event}
 use Rattle.cycle_rules.specs.Row.{Row, Input, Table, phase}
 use Rattle.cycle_rules.specs.Pick.{pick, padded}
 use Rattle.cycle_rules.specs.Dispatch.{can_dispatch}
-use Rattle.cycle_rules.specs.Issue.{can_leave}
+use Rattle.cycle_rules.specs.Issue.{can_issue}
 use Rattle.cycle_rules.specs.Retire.{can_retire}
 use Rattle.cycle_rules.specs.Events.{events, in_cycle}
 use Rattle.cycle_rules.specs.declared.times.Times.{Times}
@@ -30,7 +30,7 @@ pub record IsKept (b : Row) (t : Times) : Type 0 where
 
 abbrev pub IsEventIssue : Input → Table → ℕ → Bool → Type 0
 IsEventIssue g t j true = (t j).issue ≡ (t j).dispatch
-IsEventIssue g t j false = Least (λ c. can_leave g (sees_events g t 1 j c) j c) (t j).issue
+IsEventIssue g t j false = Least (λ c. can_issue g (sees_events g t 1 j c) j c) (t j).issue
 
 pub record IsEventRow (g : Input) (t : Table) (j : ℕ) : Type 0 where
   pub dispatch : Least (λ c. can_dispatch g (sees_events g t 2 j c) j c) (t j).dispatch

@@ -6,7 +6,7 @@ use Rattle.machine_model.specs.Meaning.{MachineMeaning}
 use Rattle.machine_model.specs.declared.facts.FileShare.{FileShare}
 use Rattle.cycle_rules.specs.Below.{sum_below, count_below, all_below}
 use Rattle.cycle_rules.specs.Row.{Row, Input, Table, uops_of, names, entries, is_load, is_store}
-use Rattle.cycle_rules.specs.Issue.{can_issue}
+use Rattle.cycle_rules.specs.Issue.{can_start}
 
 -- a bound, of which 0 means none, leaves room for one more
 unfoldable pub has_room : ℕ → ℕ → Bool
@@ -73,4 +73,4 @@ fits_buffers g t j c = list_all (λ w. has_room (entries (g.machine.buffer w.res
 unfoldable pub can_dispatch : Input → Table → ℕ → ℕ → Bool
 can_dispatch g t j c = follows (λ k. (t k).dispatch) j c
     && fits_group g t j c && fits_reorder g t j c && fits_registers g t j c && fits_loads g t j c && fits_stores g t j c
-    && (if (g.row j).reserved then can_issue g t j c else fits_buffers g t j c)
+    && (if (g.row j).reserved then can_start g t j c else fits_buffers g t j c)

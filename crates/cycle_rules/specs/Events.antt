@@ -6,7 +6,7 @@ use Rattle.cycle_rules.specs.Schedule.{Fall, Known, Rules, made, event, by_rows}
 use Rattle.cycle_rules.specs.Row.{Input, Table, phase}
 use Rattle.cycle_rules.specs.Pick.{pick, padded}
 use Rattle.cycle_rules.specs.Dispatch.{can_dispatch}
-use Rattle.cycle_rules.specs.Issue.{can_leave}
+use Rattle.cycle_rules.specs.Issue.{can_issue}
 use Rattle.cycle_rules.specs.Retire.{can_retire}
 use Rattle.cycle_rules.specs.declared.times.Times.{Times}
 
@@ -44,7 +44,7 @@ in_cycle g c known = table_of g (c + 1) known
 -- whether an event may fall in a cycle
 abbrev pub may_fall : Input → Known (List ℕ) → ℕ → ℕ → ℕ → Bool
 may_fall g known c zero j = can_retire g (in_cycle g c known) j c
-may_fall g known c (suc zero) j = not (g.row j).reserved && can_leave g (in_cycle g c known) j c
+may_fall g known c (suc zero) j = not (g.row j).reserved && can_issue g (in_cycle g c known) j c
 may_fall g known c (suc (suc p)) j = can_dispatch g (in_cycle g c known) j c
 
 abbrev pub units_taken : Input → Known (List ℕ) → ℕ → ℕ → ℕ → List ℕ

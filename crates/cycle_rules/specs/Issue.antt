@@ -29,22 +29,40 @@ unfoldable pub is_fenced : Input → ℕ → ℕ → Bool
 is_fenced g k zero = false
 is_fenced g k (suc j) = nat_lt k j && (is_store (g.row j).kind || is_barrier (g.row j).kind || is_fenced g k j)
 
--- a row of one kind may go while an older one of another is as said: whether loads may pass stores, whether one is fenced off from the other, whether the older one has issued, whether it has completed
-unfoldable pub memory_order : Kind → Kind → Bool → Bool → Bool → Bool → Bool
-memory_order Plain _ no_alias fenced issued completed = true
-memory_order _ Plain no_alias fenced issued completed = true
-memory_order Load Load no_alias fenced issued completed = not fenced || issued
-memory_order Load Store no_alias fenced issued completed = no_alias || completed
-memory_order Store Load no_alias fenced issued completed = issued
-memory_order Store Store no_alias fenced issued completed = issued
-memory_order _ _ no_alias fenced issued completed = completed
+-- what the order of memory asks of an older row
+pub record Older : Type 0 where
+  -- loads may pass stores
+  pub may_pass : Bool
+  -- a store or a barrier stands between the two rows
+  pub fenced : Bool
+  pub issued : Bool
+  pub completed : Bool
+
+-- a row of one kind may issue beside an older one of another kind
+unfoldable pub memory_order : Kind → Kind → Older → Bool
+memory_order Plain _ older = true
+memory_order _ Plain older = true
+memory_order Load Load older = not older.fenced || older.issued
+memory_order Load Store older = older.may_pass || older.completed
+memory_order Store Load older = older.issued
+memory_order Store Store older = older.issued
+memory_order _ _ older = older.completed
+
+-- row k, as row j finds it in cycle c
+abbrev pub older_row : Input → Table → ℕ → ℕ → ℕ → Older
+older_row g t j c k = record {
+  may_pass = g.machine.limits.no_alias;
+  fenced = is_fenced g k j;
+  issued = nat_le (t k).issue c;
+  completed = nat_le (t k).complete c;
+}
 
 unfoldable pub may_access : Input → Table → ℕ → ℕ → Bool
-may_access g t j c = all_below j (λ k. memory_order (g.row j).kind (g.row k).kind g.machine.limits.no_alias (is_fenced g k j) (nat_le (t k).issue c) (nat_le (t k).complete c))
+may_access g t j c = all_below j (λ k. memory_order (g.row j).kind (g.row k).kind (older_row g t j c k))
 
-unfoldable pub can_issue : Input → Table → ℕ → ℕ → Bool
-can_issue g t j c = has_operands g t j c && may_access g t j c && is_some (pick g t j c)
+unfoldable pub can_start : Input → Table → ℕ → ℕ → Bool
+can_start g t j c = has_operands g t j c && may_access g t j c && is_some (pick g t j c)
 
 -- a row that is not reserved issues in a cycle after that of its dispatch
-unfoldable pub can_leave : Input → Table → ℕ → ℕ → Bool
-can_leave g t j c = nat_lt (t j).dispatch c && can_issue g t j c
+unfoldable pub can_issue : Input → Table → ℕ → ℕ → Bool
+can_issue g t j c = nat_lt (t j).dispatch c && can_start g t j c

@@ -9,5 +9,8 @@ pub mod Run
 pub mod Schedule
 pub mod Events
 pub mod Bind
-pub mod Bounds
+pub mod CycleBound
+pub mod Held
+pub mod Check
 pub mod Worked
+pub mod Examples

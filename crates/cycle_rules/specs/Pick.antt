@@ -6,6 +6,7 @@ unfoldable pub use Rattle.unit_sets.specs.Below.{cyclic_from}
 use Rattle.machine_model.specs.Meaning.{MachineMeaning}
 use Rattle.cycle_rules.specs.Row.{Input, Table, phase}
 use Rattle.machine_model.specs.declared.facts.Use.{Use}
+use Rattle.cycle_rules.specs.declared.times.TheConstants.{NO_UNIT}
 
 -- a use that took its unit in a cycle
 pub record Taken : Type 0 where
@@ -42,7 +43,7 @@ prepend None rest = None
 
 -- how a unit is written where there is none
 abbrev pub no_unit : ℕ
-no_unit = 65535
+no_unit = NO_UNIT
 
 -- the units that the uses of a row take one after another, in a cycle; none where one of them finds no unit
 unfoldable pub pick_units : MachineMeaning → List Taken → ℕ → List Use → Option (List ℕ)

@@ -5,7 +5,7 @@ use Rattle.cycle_rules.specs.Below.{Least}
 use Rattle.cycle_rules.specs.Row.{Row, Input, Table, input, times, phase}
 use Rattle.cycle_rules.specs.Pick.{pick, padded}
 use Rattle.cycle_rules.specs.Dispatch.{can_dispatch}
-use Rattle.cycle_rules.specs.Issue.{can_leave}
+use Rattle.cycle_rules.specs.Issue.{can_issue}
 use Rattle.cycle_rules.specs.Retire.{can_retire}
 use Rattle.cycle_rules.specs.Seen.{sees}
 use Rattle.cycle_rules.specs.declared.times.Times.{Times}
@@ -13,7 +13,7 @@ use Rattle.cycle_rules.specs.declared.times.Times.{Times}
 -- the issue of a reserved row, and of another
 abbrev pub IsIssue : Input → Table → ℕ → Bool → Type 0
 IsIssue g t j true = (t j).issue ≡ (t j).dispatch
-IsIssue g t j false = Least (λ c. can_leave g (sees g t 1 j c) j c) (t j).issue
+IsIssue g t j false = Least (λ c. can_issue g (sees g t 1 j c) j c) (t j).issue
 
 -- row j is as the rules say
 pub record IsRow (g : Input) (t : Table) (j : ℕ) : Type 0 where

@@ -1,37 +1,25 @@
--- Runs that were worked out by hand, to try the definitions on: tables that are runs, and tables that break one rule each.
-use Rattle.std.specs.Prelude.{ℕ, ◌+◌, ◌-◌, ℤ, pos, negsuc, List, [], ◌∷◌, ◌++◌, length, replicate, Bool, true, false, not, ◌&&◌, None, nat_lt, nat_eq, if◌then◌else◌}
-use Rattle.std.specs.Cmp.Lexicographic.{pointwise}
+-- The words in which the worked examples are told: machines, instructions, and the times of rows.
+use Rattle.std.specs.Prelude.{ℕ, ◌-◌, ℤ, pos, negsuc, List, [], ◌∷◌, ◌++◌, length, replicate, Bool, true, false, ◌||◌, Some, None, nat_lt, nat_eq, if◌then◌else◌}
 use Rattle.machine_model.specs.Meaning.{MachineMeaning}
 use Rattle.machine_model.specs.declared.answers.ClassAnswer.TheVariants.{Missing}
 use Rattle.machine_model.specs.declared.limits.Limits.{Limits}
 use Rattle.machine_model.specs.declared.facts.Use.{Use}
 use Rattle.rv_isa.specs.declared.facts.Kind.{Kind}
 use Rattle.rv_isa.specs.declared.facts.Kind.TheVariants.{Plain, Load, Store, Barrier}
-use Rattle.cycle_rules.specs.Below.{all_below}
-use Rattle.cycle_rules.specs.Row.{Row, Input, Table, input, times, phase}
-use Rattle.cycle_rules.specs.Pick.{pick, padded}
-use Rattle.cycle_rules.specs.Bounds.{cycle_bound, turn_bound}
-use Rattle.cycle_rules.specs.Dispatch.{can_dispatch}
-use Rattle.cycle_rules.specs.Issue.{can_leave}
-use Rattle.cycle_rules.specs.Retire.{can_retire}
-use Rattle.cycle_rules.specs.Seen.{sees}
+use Rattle.cycle_rules.specs.Row.{Row, Input}
+use Rattle.cycle_rules.specs.Pick.{no_unit}
 use Rattle.cycle_rules.specs.declared.bound.Source.{Source}
 use Rattle.cycle_rules.specs.declared.times.Times.{Times}
 
--- whether a table is a run, as a test
+-- a rule, and what is run to show it: its run, and a table that is as the other rules say
+pub record Example : Type 0 where
+  pub rule : List ℕ
+  pub input : Input
+  pub run : List Times
+  pub broken : List Times
 
-abbrev pub first_at : (ℕ → Bool) → ℕ → Bool
-first_at p c = p c && all_below c (λ b. not (p b))
-
-abbrev pub row_passes : Input → Table → ℕ → Bool
-row_passes g t j = first_at (λ c. can_dispatch g (sees g t 2 j c) j c) (t j).dispatch
-    && (if (g.row j).reserved then nat_eq (t j).issue (t j).dispatch else first_at (λ c. can_leave g (sees g t 1 j c) j c) (t j).issue)
-    && pointwise nat_eq (t j).units (padded (pick g (sees g t (phase (g.row j)) j (t j).issue) j (t j).issue))
-    && nat_eq (t j).complete ((t j).issue + (g.row j).latency)
-    && first_at (λ c. can_retire g (sees g t 0 j c) j c) (t j).retire
-
-abbrev pub passes : Input → List Times → Bool
-passes g table = nat_eq (length table) g.rows && all_below g.rows (row_passes g (times table))
+abbrev pub example : List ℕ → Input → List Times → List Times → Example
+example rule g run broken = record { rule = rule; input = g; run = run; broken = broken }
 
 -- A machine of width 2 with a reorder buffer of 32. Resources: 0 PA with unit 0, 1 PB with unit 1, 2 PAB the group of both, 3 PD with unit 2, 4 PM with unit 3
 
@@ -63,6 +51,19 @@ machine_of bounds buffer advance = record {
 abbrev pub machine : MachineMeaning
 machine = machine_of limits (λ r. negsuc 0) (λ r w. pos 0)
 
+-- with one group more, PB and PD
+abbrev pub overlapping : MachineMeaning
+overlapping = record machine { resource_count = 6; units = λ r u. if nat_eq r 5 then nat_eq u 1 || nat_eq u 2 else units_of r u }
+
+-- with a register file of a size that holds the registers below 16 at a cost, and a bound on all registers
+abbrev pub with_file : ℕ → ℕ → ℕ → MachineMeaning
+with_file registers size cost = record machine {
+  limits = record limits { registers = registers };
+  file_count = 1;
+  file_size = λ f. size;
+  file_of = λ r. if nat_lt r 16 then Some (record { file = 0; cost = cost }) else None;
+}
+
 abbrev pub with_limits : Limits → MachineMeaning
 with_limits bounds = machine_of bounds (λ r. negsuc 0) (λ r w. pos 0)
 
@@ -75,7 +76,18 @@ with_advance a = machine_of limits (λ r. negsuc 0) (λ r w. a)
 -- instructions: the registers that they write and read
 
 abbrev pub row_of : ℕ → ℕ → List Use → Bool → List Source → ℕ → Kind → Row
-row_of uops latency uses reserved reads rd kind = record { uops = uops; latency = latency; uses = uses; reserved = reserved; reads = reads; rd = rd; write = 0; kind = kind; begins_group = false; ends_group = false }
+row_of uops latency uses reserved reads rd kind = record {
+  uops = uops;
+  latency = latency;
+  uses = uses;
+  reserved = reserved;
+  reads = reads;
+  rd = rd;
+  write = 0;
+  kind = kind;
+  begins_group = false;
+  ends_group = false;
+}
 
 abbrev pub use_of : ℕ → ℕ → List Use
 use_of r hold = record { resource = r; hold = hold } ∷ []
@@ -114,108 +126,13 @@ abbrev pub bare_add : ℕ → Row
 bare_add rd = row_of 1 1 [] false (reads 14 15) rd Plain
 
 abbrev pub at : ℕ → ℕ → ℕ → ℕ → List ℕ → Times
-at d i w t us = record { dispatch = d; issue = i; complete = w; retire = t; units = us ++ replicate (8 - length us) 65535 }
+at d i w t us = record { dispatch = d; issue = i; complete = w; retire = t; units = us ++ replicate (8 - length us) no_unit }
+
+abbrev pub begins : Row → Row
+begins b = record b { begins_group = true }
+
+abbrev pub ends : Row → Row
+ends b = record b { ends_group = true }
 
 abbrev pub unit : ℕ → List ℕ
 unit u = u ∷ []
-
-abbrev pub on : MachineMeaning → List Row → List Times → Bool
-on m body table = passes (input m body 1) table
-
--- Runs
-
-abbrev pub worked_runs : List Bool
-worked_runs =
-    -- one addition
-    on machine (add 10 11 12 ∷ []) (at 0 1 2 3 (unit 0) ∷ [])
-    -- a sum waits for the one before; the group's units in turn
-    ∷ on machine (add 10 10 10 ∷ add 11 10 10 ∷ []) (at 0 1 2 3 (unit 0) ∷ at 0 2 3 4 (unit 1) ∷ [])
-    -- nothing waits for register 0
-    ∷ on machine (add 0 10 11 ∷ add 11 0 0 ∷ []) (at 0 1 2 3 (unit 0) ∷ at 0 1 2 3 (unit 1) ∷ [])
-    -- an advance above the latency: the product can be read in the cycle in which it issues
-    ∷ on (with_advance (pos 5)) (mul 10 11 12 ∷ add 13 10 10 ∷ []) (at 0 1 4 5 (unit 0) ∷ at 0 1 2 5 (unit 1) ∷ [])
-    -- a negative advance lengthens
-    ∷ on (with_advance (negsuc 1)) (add 10 11 12 ∷ add 13 10 10 ∷ []) (at 0 1 2 3 (unit 0) ∷ at 0 4 5 6 (unit 1) ∷ [])
-    -- two a cycle
-    ∷ on machine (add 10 11 12 ∷ add 13 14 15 ∷ add 16 17 18 ∷ []) (at 0 1 2 3 (unit 0) ∷ at 0 1 2 3 (unit 1) ∷ at 1 2 3 4 (unit 0) ∷ [])
-    -- a reserved divider blocks the dispatch of the next division
-    ∷ on (with_buffer 3 (pos 0)) (reserved_div 10 11 12 ∷ reserved_div 13 14 15 ∷ []) (at 0 0 3 4 (unit 2) ∷ at 3 3 6 7 (unit 2) ∷ [])
-    -- five micro-ops fill two cycles and half of a third
-    ∷ on machine (wide_div (use_of 3 20) ∷ add 13 14 15 ∷ []) (at 0 1 21 22 (unit 2) ∷ at 2 3 4 22 (unit 0) ∷ [])
-    -- a reorder buffer of two is freed by retirement
-    ∷ on (with_limits (record limits { reorder = 2 })) (div 10 11 12 ∷ add 13 14 15 ∷ add 16 17 18 ∷ []) (at 0 1 21 22 (unit 2) ∷ at 0 1 2 22 (unit 0) ∷ at 22 23 24 25 (unit 1) ∷ [])
-    -- a load passes an older store, and waits for it where they may be the same
-    ∷ on machine (lw 10 11 ∷ sw 12 13 ∷ lw 14 15 ∷ []) (at 0 1 5 6 (unit 3) ∷ at 0 2 5 6 (unit 3) ∷ at 1 3 7 8 (unit 3) ∷ [])
-    ∷ on (with_limits (record limits { no_alias = false })) (lw 10 11 ∷ sw 12 13 ∷ lw 14 15 ∷ []) (at 0 1 5 6 (unit 3) ∷ at 0 2 5 6 (unit 3) ∷ at 1 5 9 10 (unit 3) ∷ [])
-    -- a store waits until the older load has issued, and the load after it waits with it
-    ∷ on machine (div 11 12 13 ∷ lw 10 11 ∷ sw 12 13 ∷ lw 14 15 ∷ []) (at 0 1 21 22 (unit 2) ∷ at 0 21 25 26 (unit 3) ∷ at 1 22 25 26 (unit 3) ∷ at 1 23 27 28 (unit 3) ∷ [])
-    -- a fence between a store and a load
-    ∷ on machine (sw 10 11 ∷ fence ∷ lw 12 13 ∷ []) (at 0 1 4 5 (unit 3) ∷ at 0 4 5 6 (unit 1) ∷ at 1 5 9 10 (unit 3) ∷ [])
-    -- two products and their sums
-    ∷ on machine (mul 10 11 12 ∷ add 13 10 10 ∷ mul 14 15 16 ∷ add 17 14 14 ∷ []) (at 0 1 4 5 (unit 0) ∷ at 0 4 5 6 (unit 0) ∷ at 1 2 5 6 (unit 0) ∷ at 1 5 6 7 (unit 1) ∷ [])
-    -- a buffer of one entry before the adders
-    ∷ on (with_buffer 2 (pos 1)) (div 10 11 12 ∷ add 11 10 10 ∷ add 12 13 14 ∷ []) (at 0 1 21 22 (unit 2) ∷ at 0 21 22 23 (unit 0) ∷ at 21 22 23 24 (unit 1) ∷ [])
-    -- one register in flight
-    ∷ on (with_limits (record limits { registers = 1 })) (add 10 11 12 ∷ add 13 14 15 ∷ []) (at 0 1 2 3 (unit 0) ∷ at 3 4 5 6 (unit 1) ∷ [])
-    -- a load queue of one entry
-    ∷ on (with_limits (record limits { loads = 1 })) (lw 10 11 ∷ lw 12 13 ∷ []) (at 0 1 5 6 (unit 3) ∷ at 6 7 11 12 (unit 3) ∷ [])
-    -- one retirement a cycle
-    ∷ on (with_limits (record limits { retire = 1 })) (add 10 11 12 ∷ add 13 14 15 ∷ []) (at 0 1 2 3 (unit 0) ∷ at 0 1 2 4 (unit 1) ∷ [])
-    -- two products that share a multiplier
-    ∷ on machine (mul 10 11 12 ∷ mul 13 14 15 ∷ []) (at 0 1 4 5 (unit 0) ∷ at 0 2 5 6 (unit 0) ∷ [])
-    -- a product that feeds itself, in two iterations
-    ∷ passes (input machine (mul 10 10 10 ∷ []) 2) (at 0 1 4 5 (unit 0) ∷ at 0 4 7 8 (unit 0) ∷ [])
-    -- without resources: five micro-ops count as the two that the reorder buffer holds, and as five where it holds more
-    ∷ on (with_limits (record limits { reorder = 2 })) (wide_div [] ∷ bare_add 13 ∷ []) (at 0 1 21 22 [] ∷ at 22 23 24 25 [] ∷ [])
-    ∷ on machine (wide_div [] ∷ bare_add 13 ∷ []) (at 0 1 21 22 [] ∷ at 2 3 4 22 [] ∷ [])
-    ∷ on (with_limits (record limits { registers = 1 })) (bare_add 10 ∷ bare_add 13 ∷ []) (at 0 1 2 3 [] ∷ at 3 4 5 6 [] ∷ [])
-    ∷ []
-
--- The two numbers of `Bounds` on worked rows
-
-abbrev pub worked_bounds : List ℕ
-worked_bounds =
-    -- one addition: 1, and 4 and its latency, its hold and the cycle of its dispatch
-    cycle_bound (input machine (add 10 11 12 ∷ []) 1) ∷ turn_bound (input machine (add 10 11 12 ∷ []) 1)
-    -- a division of five micro-ops: three cycles of a width of two
-    ∷ cycle_bound (input machine (wide_div (use_of 3 20) ∷ []) 1) ∷ turn_bound (input machine (wide_div (use_of 3 20) ∷ []) 1)
-    -- which count as the two that the reorder buffer holds
-    ∷ cycle_bound (input (with_limits (record limits { reorder = 2 })) (wide_div [] ∷ []) 1)
-    -- an advance of -2 adds two cycles to each row
-    ∷ cycle_bound (input (with_advance (negsuc 1)) (add 10 11 12 ∷ []) 3)
-    ∷ []
-
--- No runs
-
-abbrev pub wrong_runs : List Bool
-wrong_runs =
-    -- the younger of two ready rows issues first
-    on machine (mul 10 11 12 ∷ mul 13 14 15 ∷ []) (at 0 2 5 6 (unit 0) ∷ at 0 1 4 6 (unit 0) ∷ [])
-    -- the unit's release is missed, and the second product issues when the first completes
-    ∷ on machine (mul 10 11 12 ∷ mul 13 14 15 ∷ []) (at 0 1 4 5 (unit 0) ∷ at 0 4 7 8 (unit 0) ∷ [])
-    -- a group always gives its first free unit
-    ∷ on machine (add 10 10 10 ∷ add 11 10 10 ∷ []) (at 0 1 2 3 (unit 0) ∷ at 0 2 3 4 (unit 0) ∷ [])
-    -- the reorder buffer is freed at completion
-    ∷ on (with_limits (record limits { reorder = 2 })) (div 10 11 12 ∷ add 13 14 15 ∷ add 16 17 18 ∷ []) (at 0 1 21 22 (unit 2) ∷ at 0 1 2 22 (unit 0) ∷ at 21 22 23 24 (unit 1) ∷ [])
-    -- a store passes an older load
-    ∷ on machine (div 11 12 13 ∷ lw 10 11 ∷ sw 12 13 ∷ []) (at 0 1 21 22 (unit 2) ∷ at 0 21 25 26 (unit 3) ∷ at 1 2 5 26 (unit 3) ∷ [])
-    -- a load passes a store though they may be the same
-    ∷ on (with_limits (record limits { no_alias = false })) (lw 10 11 ∷ sw 12 13 ∷ lw 14 15 ∷ []) (at 0 1 5 6 (unit 3) ∷ at 0 2 5 6 (unit 3) ∷ at 1 3 7 8 (unit 3) ∷ [])
-    -- a negative advance is taken as 0
-    ∷ on (with_advance (negsuc 1)) (add 10 11 12 ∷ add 13 10 10 ∷ []) (at 0 1 2 3 (unit 0) ∷ at 0 2 3 4 (unit 1) ∷ [])
-    -- register 0 is waited for
-    ∷ on machine (add 0 10 11 ∷ add 11 0 0 ∷ []) (at 0 1 2 3 (unit 0) ∷ at 0 2 3 4 (unit 1) ∷ [])
-    -- a producer is not waited for
-    ∷ on machine (add 10 10 10 ∷ add 11 10 10 ∷ []) (at 0 1 2 3 (unit 0) ∷ at 0 1 2 3 (unit 1) ∷ [])
-    -- one row too many retires in a cycle
-    ∷ on (with_limits (record limits { retire = 1 })) (add 10 11 12 ∷ add 13 14 15 ∷ []) (at 0 1 2 3 (unit 0) ∷ at 0 1 2 3 (unit 1) ∷ [])
-    -- a row retires before an older one
-    ∷ on machine (div 10 11 12 ∷ add 13 14 15 ∷ []) (at 0 1 21 22 (unit 2) ∷ at 0 1 2 3 (unit 0) ∷ [])
-    -- a row issues a cycle late, and one in the cycle of its dispatch
-    ∷ on machine (add 10 11 12 ∷ []) (at 0 2 3 4 (unit 0) ∷ [])
-    ∷ on machine (add 10 11 12 ∷ []) (at 0 0 1 2 (unit 0) ∷ [])
-    -- a reserved row issues after its dispatch
-    ∷ on (with_buffer 3 (pos 0)) (reserved_div 10 11 12 ∷ []) (at 0 1 4 5 (unit 2) ∷ [])
-    -- a row is missing
-    ∷ on machine (add 10 11 12 ∷ add 13 14 15 ∷ []) (at 0 1 2 3 (unit 0) ∷ [])
-    ∷ []

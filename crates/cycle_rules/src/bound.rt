@@ -8,7 +8,7 @@ use rv_isa::{Op, Reg};
 pub struct Source {
     /// The register. x0 has no producer.
     pub reg: Reg,
-    /// The read class, or 65,535 for none.
+    /// The read class, or `NO_CLASS`.
     pub read: u16,
 }
 

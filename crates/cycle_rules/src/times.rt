@@ -5,6 +5,9 @@ ghost use Rattle.cycle_rules.specs.Run.{total_of};
 
 use mca_fixed::Items;
 
+/// How a unit is written where there is none.
+pub const NO_UNIT: u16 = 65_535;
+
 /// The cycles of one row, an instruction in one iteration, counted from 0.
 #[derive(Clone, Copy, Debug, PartialEq, Eq)]
 pub struct Times {
@@ -16,7 +19,7 @@ pub struct Times {
     pub complete: u64,
     /// The cycle in which it leaves the reorder buffer.
     pub retire: u64,
-    /// The unit that each of its uses takes, in use order; 65,535 for no unit.
+    /// The unit that each of its uses takes, in use order; `NO_UNIT` for none.
     pub units: [u16; 8],
 }
 

@@ -1,15 +1,18 @@
 use Rattle.cycle_rules.proofs.PassesRun.{passes_decides}
-use Rattle.cycle_rules.proofs.WorkedRuns.{runs_pass, wrong_fail, bounds_are}
+use Rattle.cycle_rules.proofs.WorkedRuns.{runs_are, broken_are, totals_are_within, bounds_are}
 use Rattle.cycle_rules.proofs.worked.Goals as goal
 
 pub returns-clause-test : goal.returns-clause-test
 returns-clause-test c = passes_decides
 
 pub returns-clause-runs : goal.returns-clause-runs
-returns-clause-runs c = runs_pass
+returns-clause-runs c = runs_are
 
-pub returns-clause-wrong : goal.returns-clause-wrong
-returns-clause-wrong c = wrong_fail
+pub returns-clause-broken : goal.returns-clause-broken
+returns-clause-broken c = broken_are
 
 pub returns-clause-bounds : goal.returns-clause-bounds
 returns-clause-bounds c = bounds_are
+
+pub returns-clause-within : goal.returns-clause-within
+returns-clause-within c = totals_are_within
