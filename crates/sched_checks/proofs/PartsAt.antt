@@ -6,7 +6,7 @@ use Rattle.std.specs.declared.option.Option.{Option}
 use Rattle.std.proofs.lemmas.List.{drop-map, map-append}
 use Rattle.std.proofs.lemmas.Option.{slice_get-map}
 use Rattle.std.proofs.lemmas.Bool.Decides.{nat_tests}
-use Rattle.sched_entries.specs.declared.entry.Resource.{Resource}
+use Rattle.sched_resolve.specs.declared.entry.Resource.{Resource}
 use Rattle.sched_checks.specs.Resources.{parts_in, parts_at, parts, total}
 use Rattle.sched_checks.specs.Parts.{parts_from, numbers_at, units_of, count_at}
 

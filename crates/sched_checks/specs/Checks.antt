@@ -1,45 +1,20 @@
 -- The checks of a record, each as a test of what the record says, of those before it, and of the resources.
-use Rattle.std.specs.Prelude.{ℕ, ◌+◌, ℤ, pos, neg_ℤ, int_le, List, length, sum_by, count_by, slice_get, is_some, nat_eq, nat_lt, nat_le, Bool, true, false, not, ◌&&◌, ◌||◌, Some, None}
+pub use Rattle.rv_isa.specs.Opcodes.{same_op}
+pub use Rattle.sched_resolve.specs.EntryTests.{is_model, is_resource, is_file, is_retirement, is_load_queue, is_store_queue, class_has}
+use Rattle.std.specs.Prelude.{ℕ, ◌+◌, ℤ, pos, neg_ℤ, int_le, List, length, sum_by, count_by, slice_get, is_some, nat_eq, nat_lt, nat_le, Bool, false, not, ◌&&◌, ◌||◌, Some, None}
 use Rattle.std.specs.Ordering.{int_eq}
-use Rattle.std.specs.Cmp.Lexicographic.{pointwise}
 use Rattle.std.specs.List.{list_any, range_with_len}
 use Rattle.std.specs.declared.option.Option.{Option}
 use Rattle.rv_isa.specs.declared.op.Op.{Op}
-use Rattle.rv_isa.specs.Opcodes.{facts_of}
 use Rattle.machine_model.specs.Uses.{can_be_met}
-use Rattle.sched_entries.specs.declared.entry.Entry.{Entry}
-use Rattle.sched_entries.specs.declared.entry.Entry.TheVariants as entry
-use Rattle.sched_entries.specs.declared.entry.Makeup.{Makeup}
-use Rattle.sched_entries.specs.declared.entry.Makeup.TheVariants as makeup
-use Rattle.sched_entries.specs.declared.entry.Registers.{Registers}
-use Rattle.sched_entries.specs.declared.entry.Registers.TheVariants as registers
-use Rattle.sched_entries.specs.declared.entry.Resource.{Resource}
-use Rattle.sched_entries.specs.declared.entry.File.{File}
+use Rattle.sched_resolve.specs.declared.entry.Entry.{Entry}
+use Rattle.sched_resolve.specs.declared.entry.Entry.TheVariants as entry
+use Rattle.sched_resolve.specs.declared.entry.Makeup.{Makeup}
+use Rattle.sched_resolve.specs.declared.entry.Makeup.TheVariants as makeup
+use Rattle.sched_resolve.specs.declared.entry.Registers.TheVariants as registers
+use Rattle.sched_resolve.specs.declared.entry.Resource.{Resource}
+use Rattle.sched_resolve.specs.declared.entry.File.{File}
 use Rattle.sched_checks.specs.Resources.{own_units, group_at, total, share, uses_by}
-
-abbrev pub is_model : Entry → Bool
-is_model (entry.Model m) = true
-is_model _ = false
-
-abbrev pub is_resource : Entry → Bool
-is_resource (entry.Resource r) = true
-is_resource _ = false
-
-abbrev pub is_file : Entry → Bool
-is_file (entry.File f) = true
-is_file _ = false
-
-abbrev pub is_retirement : Entry → Bool
-is_retirement (entry.Retirement r) = true
-is_retirement _ = false
-
-abbrev pub is_load_queue : Entry → Bool
-is_load_queue (entry.LoadQueue q) = true
-is_load_queue _ = false
-
-abbrev pub is_store_queue : Entry → Bool
-is_store_queue (entry.StoreQueue q) = true
-is_store_queue _ = false
 
 -- a number is outside of a range
 abbrev pub is_outside : ℤ → ℤ → ℤ → Bool
@@ -94,12 +69,12 @@ group_of_group rs (entry.Resource r) = has_group rs r.makeup
 group_of_group rs _ = false
 
 -- a list is there, and not as long as the one that it goes with
-abbrev pub is_odd : ℕ → ℕ → Bool
-is_odd length other = not (nat_eq length 0) && not (nat_eq length other)
+abbrev pub lengths_differ : ℕ → ℕ → Bool
+lengths_differ length other = not (nat_eq length 0) && not (nat_eq length other)
 
 abbrev pub list_lengths : Entry → Bool
-list_lengths (entry.Write w) = is_odd (length w.cycles) (length w.uses)
-list_lengths (entry.File f) = is_odd (length f.costs) (length f.classes)
+list_lengths (entry.Write w) = lengths_differ (length w.cycles) (length w.uses)
+list_lengths (entry.File f) = lengths_differ (length f.costs) (length f.classes)
 list_lengths (entry.Rewrite r) = nat_eq r.names 0 || nat_lt 3 r.names
 list_lengths _ = false
 
@@ -124,7 +99,8 @@ out_of_range earlier (entry.Resource r) = is_outside (neg_ℤ (pos 1)) (pos 4096
 out_of_range earlier (entry.Write w) = is_outside (pos 0) (pos 1000000) w.latency || is_outside (pos 1) (pos 4096) w.micro_ops
     || list_any (is_outside (pos 0) (pos 1000000)) w.cycles || nat_lt 8 (length w.uses)
 out_of_range earlier (entry.Advance a) = is_outside (neg_ℤ (pos 1000)) (pos 1000) a.cycles
-out_of_range earlier (entry.File f) = is_outside (pos 0) (pos 65536) f.size || list_any (is_outside (pos 1) (pos 8)) f.costs || nat_le 8 (count_by is_file earlier)
+out_of_range earlier (entry.File f) = is_outside (pos 0) (pos 65536) f.size || list_any (is_outside (pos 1) (pos 8)) f.costs
+    || nat_le 8 (count_by is_file earlier)
 out_of_range earlier (entry.Retirement r) = is_outside (neg_ℤ (pos 1)) (pos 4096) r.entries || is_outside (neg_ℤ (pos 1)) (pos 64) r.width
 out_of_range earlier _ = false
 
@@ -137,11 +113,6 @@ move_elimination (entry.File f) = f.eliminates
 move_elimination _ = false
 
 -- a register stands in an earlier file too, or in two classes of this one
-
-abbrev pub class_has : ℕ → Registers → Bool
-class_has r registers.General = nat_le 1 r && nat_le r 31
-class_has r registers.Compressed = nat_le 8 r && nat_le r 15
-class_has r registers.Other = false
 
 abbrev pub file_has : ℕ → File → Bool
 file_has r f = (nat_eq (length f.classes) 0 && class_has r registers.General) || list_any (class_has r) f.classes
@@ -163,9 +134,6 @@ file_too_small _ = false
 
 -- a second write for a class or an opcode, or a later name of an InstRW that is a write
 
-abbrev pub same_op : Op → Op → Bool
-same_op a b = pointwise nat_eq (facts_of a).mnemonic (facts_of b).mnemonic
-
 abbrev pub rewrites : Op → Entry → Bool
 rewrites o (entry.Rewrite r) = list_any (same_op o) r.ops
 rewrites o _ = false
@@ -180,7 +148,8 @@ two_advances (entry.Advance a) = a.again
 two_advances _ = false
 
 abbrev pub two_queues : List Entry → Entry → Bool
-two_queues earlier e = (is_retirement e && list_any is_retirement earlier) || (is_load_queue e && list_any is_load_queue earlier) || (is_store_queue e && list_any is_store_queue earlier)
+two_queues earlier e = (is_retirement e && list_any is_retirement earlier)
+    || (is_load_queue e && list_any is_load_queue earlier) || (is_store_queue e && list_any is_store_queue earlier)
 
 -- a use of a hold above 0 shares a unit with as many uses before it, in use order, as its resource has units
 abbrev pub use_cannot_be_met : List Resource → Entry → Bool

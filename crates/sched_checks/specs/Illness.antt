@@ -2,8 +2,8 @@
 use Rattle.std.specs.Prelude.{ℕ, ◌+◌, List, [], ◌∷◌, ◌++◌, Some, None, if◌then◌else◌}
 use Rattle.std.specs.List.{list_any}
 use Rattle.std.specs.declared.option.Option.{Option}
-use Rattle.sched_entries.specs.declared.entry.Entry.{Entry}
-use Rattle.sched_entries.specs.declared.entry.Resource.{Resource}
+use Rattle.sched_resolve.specs.declared.entry.Entry.{Entry}
+use Rattle.sched_resolve.specs.declared.entry.Resource.{Resource}
 use Rattle.sched_checks.specs.Checks.{is_model, two_models, unknown_name, no_units, group_of_group, list_lengths, zero_micro_ops, out_of_range, in_order_model, move_elimination, two_files, file_too_small, two_writes, two_advances, two_queues, use_cannot_be_met}
 use Rattle.sched_checks.specs.Resources.{resources_of}
 use Rattle.sched_checks.specs.declared.illness.IllKind.{IllKind}

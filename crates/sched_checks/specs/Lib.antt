@@ -1,7 +1,7 @@
 pub mod Names
 pub mod Resources
 pub mod Checks
-pub mod Earlier
+pub mod Before
 pub mod Parts
 pub mod UseOrder
 pub mod Illness

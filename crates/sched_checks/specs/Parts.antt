@@ -1,7 +1,7 @@
 -- The parts of the resources of a table, in the order of the resources.
 use Rattle.std.specs.Prelude.{ℕ, ◌+◌, List, [], ◌∷◌, sum_by, slice_get, Some, None}
 use Rattle.std.specs.declared.option.Option.{Option}
-use Rattle.sched_entries.specs.declared.entry.Resource.{Resource}
+use Rattle.sched_resolve.specs.declared.entry.Resource.{Resource}
 use Rattle.sched_checks.specs.Resources.{units_at, parts_in}
 
 -- of the resources from a number on

@@ -1,26 +1,13 @@
 -- The resources of a table, what they are made of, and the uses that a write makes of them.
--- A number that is out of range has no more sense than this: below 0 it counts as 0.
-pub use Rattle.sched_entries.specs.InRange.{resource_in, resources_of}
-use Rattle.std.specs.Prelude.{ℕ, ℤ, pos, negsuc, List, [], ◌∷◌, ◌++◌, sum_by, slice_get, nat_eq, nat_lt, Bool, true, false, not, ◌&&◌, Some, None, if◌then◌else◌}
+pub use Rattle.sched_resolve.specs.InRange.{resource_in, resources_of}
+pub use Rattle.sched_resolve.specs.EntryTests.{count_of, own_units, is_group}
+use Rattle.std.specs.Prelude.{ℕ, ℤ, List, [], ◌∷◌, ◌++◌, sum_by, slice_get, nat_eq, nat_lt, Bool, false, not, ◌&&◌, Some, None, if◌then◌else◌}
 use Rattle.std.specs.List.{list_any}
 use Rattle.std.specs.declared.option.Option.{Option}
 use Rattle.machine_model.specs.declared.facts.Use.{Use}
-use Rattle.sched_entries.specs.declared.entry.Makeup.{Makeup}
-use Rattle.sched_entries.specs.declared.entry.Makeup.TheVariants as makeup
-use Rattle.sched_entries.specs.declared.entry.Resource.{Resource}
-
-abbrev pub count_of : ℤ → ℕ
-count_of (pos n) = n
-count_of (negsuc n) = 0
-
--- the units that a ProcResource has of its own
-abbrev pub own_units : Makeup → ℕ
-own_units (makeup.Units n) = count_of n
-own_units (makeup.Group members) = 0
-
-abbrev pub is_group : Makeup → Bool
-is_group (makeup.Units n) = false
-is_group (makeup.Group members) = true
+use Rattle.sched_resolve.specs.declared.entry.Makeup.{Makeup}
+use Rattle.sched_resolve.specs.declared.entry.Makeup.TheVariants as makeup
+use Rattle.sched_resolve.specs.declared.entry.Resource.{Resource}
 
 abbrev pub units_at : Option Resource → ℕ
 units_at None = 0

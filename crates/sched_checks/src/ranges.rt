@@ -1,10 +1,9 @@
 //! Numbers in and out of their ranges.
 ghost use Rattle.std.specs.Prelude.{◌≡◌, [], ◌||◌, pos, neg_ℤ, nat_lt, length};
 ghost use Rattle.std.specs.List.{list_any};
-ghost use Rattle.sched_checks.specs.Resources.{count_of, own_units};
 ghost use Rattle.sched_checks.specs.Checks.{is_outside, bad_units, entry_units, out_of_range};
 
-use sched_entries::{Advance, Entry, File, Makeup, Model, Resource, Retirement, Write};
+use sched_resolve::{Advance, Entry, File, Makeup, Model, Resource, Retirement, Write};
 
 fn is_outside(low: i64, high: i64, number: i64) -> bool
     ensures { result ≡ is_outside low high number }
@@ -18,29 +17,12 @@ fn any_outside(low: i64, high: i64, numbers: &[i64]) -> bool
     numbers.iter().any(|number| is_outside(low, high, *number))
 }
 
-/// The number, or 0 where it is below.
-pub fn count_of(number: i64) -> u64
-    ensures { result ≡ count_of number }
-{
-    if number < 0 { 0 } else { number as u64 }
-}
-
-/// The units that a `ProcResource` has of its own.
-pub fn own_units(makeup: &Makeup) -> u64
-    ensures { result ≡ own_units makeup.now }
-{
-    match makeup {
-        Makeup::Units(units) => count_of(*units),
-        Makeup::Group(_) => 0,
-    }
-}
-
 /// The units that a record adds to the machine's.
 pub fn entry_units(entry: &Entry) -> u64
     ensures { result ≡ entry_units entry.now }
 {
     match entry {
-        Entry::Resource(resource) => own_units(&resource.makeup),
+        Entry::Resource(resource) => resource.makeup.own_units(),
         _ => 0,
     }
 }
@@ -62,7 +44,8 @@ pub fn bad_model(model: &Model) -> bool
 
 /// A number of the resource is outside its range; how many there are is another matter.
 pub fn bad_resource(resource: &Resource) -> bool
-    ensures { result ≡ (is_outside (neg_ℤ (pos 1)) (pos 4096) resource.now.buffer || bad_units resource.now.makeup) }
+    ensures { result
+        ≡ (is_outside (neg_ℤ (pos 1)) (pos 4096) resource.now.buffer || bad_units resource.now.makeup) }
 {
     is_outside(-1, 4096, resource.buffer) || bad_units(&resource.makeup)
 }
@@ -84,7 +67,8 @@ pub fn bad_advance(advance: &Advance) -> bool
 
 /// A number of the file is outside its range; how many there are is another matter.
 pub fn bad_file(file: &File) -> bool
-    ensures { result ≡ (is_outside (pos 0) (pos 65536) file.now.size || list_any (is_outside (pos 1) (pos 8)) file.now.costs) }
+    ensures { result
+        ≡ (is_outside (pos 0) (pos 65536) file.now.size || list_any (is_outside (pos 1) (pos 8)) file.now.costs) }
 {
     is_outside(0, 65536, file.size) || any_outside(1, 8, file.costs.as_slice())
 }

@@ -1,14 +1,13 @@
 //! The resources of a table, and what each is made of.
-ghost use Rattle.std.specs.Prelude.{◌≡◌, ◌&&◌, map, nat_eq, nat_lt, slice_get, IfOk, OnOk};
+ghost use Rattle.std.specs.Prelude.{◌≡◌, ◌&&◌, map, nat_eq, nat_lt, slice_get, option_map, IfOk, OnOk};
 ghost use Rattle.std.specs.List.{list_any};
-ghost use Rattle.sched_checks.specs.Resources.{resources_of, units_at, group_at, plain_at, is_group, with_part, with_parts, parts_in, parts, total, share};
+ghost use Rattle.sched_checks.specs.Resources.{resources_of, units_at, group_at, plain_at, with_part, with_parts, parts_in, parts, total, share};
 ghost use Rattle.sched_checks.specs.Parts.{parts_from, numbers_at, units_of, count_at};
 ghost use Rattle.sched_checks.specs.Checks.{is_group_member, has_group, group_of_group};
 
-use crate::ranges::own_units;
 use indexmap::IndexSet;
 use mca_fixed::NoMemory;
-use sched_entries::{Entry, Makeup, Resource};
+use sched_resolve::{Entry, Makeup, Resource};
 use std::alloc::Global;
 use std::marker::Model;
 
@@ -24,36 +23,37 @@ fn resources_of<'a>(alloc: Global, entries: &'a [Entry]) -> Result<Vec<&'a Resou
     Ok(list)
 }
 
+/// The resource of a number.
+fn resource_at<'a>(list: &[&'a Resource], number: usize) -> Option<&'a Resource>
+    ensures { option_map (λ r. r.now) result ≡ slice_get (map (λ r. r.now) list.now) number }
+{
+    list.get(number).copied()
+}
+
 fn units_at(list: &[&Resource], number: usize) -> u64
     ensures { result ≡ units_at (slice_get (map (λ r. r.now) list.now) number) }
 {
-    match list.get(number) {
+    match resource_at(list, number) {
         None => 0,
-        Some(resource) => own_units(&resource.makeup),
+        Some(resource) => resource.makeup.own_units(),
     }
-}
-
-fn is_group(makeup: &Makeup) -> bool
-    ensures { result ≡ is_group makeup.now }
-{
-    matches!(makeup, Makeup::Group(_))
 }
 
 fn group_at(list: &[&Resource], number: usize) -> bool
     ensures { result ≡ group_at (slice_get (map (λ r. r.now) list.now) number) }
 {
-    match list.get(number) {
+    match resource_at(list, number) {
         None => false,
-        Some(resource) => is_group(&resource.makeup),
+        Some(resource) => resource.makeup.is_group(),
     }
 }
 
 fn plain_at(list: &[&Resource], number: usize) -> bool
     ensures { result ≡ plain_at (slice_get (map (λ r. r.now) list.now) number) }
 {
-    match list.get(number) {
+    match resource_at(list, number) {
         None => false,
-        Some(resource) => !is_group(&resource.makeup),
+        Some(resource) => !resource.makeup.is_group(),
     }
 }
 
@@ -109,7 +109,8 @@ fn parts_in(
 }
 
 fn all_parts(alloc: Global, list: &[&Resource]) -> Result<Vec<IndexSet<usize>>, NoMemory>
-    ensures { IfOk result (λ all. map (λ parts. parts.keys) all.items ≡ parts_from (map (λ r. r.now) list.now) 0 (map (λ r. r.now) list.now)) }
+    ensures { IfOk result (λ all. map (λ parts. parts.keys) all.items
+        ≡ parts_from (map (λ r. r.now) list.now) 0 (map (λ r. r.now) list.now)) }
 {
     let mut all = Vec::with_capacity(alloc, list.len())?;
     for (number, resource) in list.iter().enumerate() {
@@ -134,7 +135,8 @@ fn all_units(
     list: &[&Resource],
     all: &[IndexSet<usize>],
 ) -> Result<Vec<u128>, NoMemory>
-    ensures { IfOk result (λ units. units.items ≡ map (units_of (map (λ r. r.now) list.now)) (map (λ parts. parts.keys) all.now)) }
+    ensures { IfOk result (λ units. units.items
+        ≡ map (units_of (map (λ r. r.now) list.now)) (map (λ parts. parts.keys) all.now)) }
 {
     let mut units = Vec::with_capacity(alloc, all.len())?;
     for parts in all {
@@ -156,7 +158,8 @@ fn numbers_at(all: &[IndexSet<usize>], number: usize) -> &[usize]
 /// Whether the parts at a place have the number of one.
 #[tactic(auto, using(crate::proofs::PartsAt::same_number))]
 fn has_number_at(all: &[IndexSet<usize>], number: usize, part: usize) -> bool
-    ensures { result ≡ list_any (λ q. nat_eq q part) (numbers_at (slice_get (map (λ p. p.keys) all.now) number)) }
+    ensures { result
+        ≡ list_any (λ q. nat_eq q part) (numbers_at (slice_get (map (λ p. p.keys) all.now) number)) }
 {
     match all.get(number) {
         None => false,
@@ -175,7 +178,6 @@ fn count_at(counts: &[u128], number: usize) -> u128
 
 /// The resources of a table, by their numbers, with the parts and the units of each. Contracts see the
 /// list.
-#[derive(Drop)]
 pub struct Resources<'a> {
     list: Vec<&'a Resource>,
     parts: Vec<IndexSet<usize>>,
@@ -184,14 +186,26 @@ pub struct Resources<'a> {
 
 impl<'a> Model for Resources<'a> {
     ghost use Rattle.std.specs.Prelude.{List, ◌≡◌, map};
-    ghost use Rattle.sched_entries.specs.declared.entry.Resource.{Resource};
+    ghost use Rattle.sched_resolve.specs.declared.entry.Resource.{Resource};
     ghost use Rattle.sched_checks.specs.Parts.{parts_from, units_of};
 
     ghost Value = { List Resource };
 
     ghost view = { λ s. map (λ r. r.now) s.list.items };
 
-    ghost invariant = { λ s. let rs = map (λ r. r.now) s.list.items in let all = parts_from rs 0 rs in (map (λ p. p.keys) s.parts.items ≡ all) × (s.units.items ≡ map (units_of rs) all) };
+    ghost invariant = { λ s. let rs = map (λ r. r.now) s.list.items in let all = parts_from rs 0 rs in
+        (map (λ p. p.keys) s.parts.items ≡ all) × (s.units.items ≡ map (units_of rs) all) };
+}
+
+/// Written out, so that what drops resources does it by a call: to check the drop of a set takes long.
+impl<'a> Drop for Resources<'a> {
+    fn drop(self) {
+        let Resources {
+            list: _,
+            parts: _,
+            units: _,
+        } = self;
+    }
 }
 
 impl<'a> Resources<'a> {
@@ -227,7 +241,8 @@ impl<'a> Resources<'a> {
 
     /// Whether a part that has units is a part of the resource too.
     fn has_units_in(&self, number: usize, part: usize) -> bool
-        ensures { result ≡ (nat_lt 0 (units_at (slice_get self.now part)) && list_any (λ q. nat_eq q part) (parts self.now number)) }
+        ensures { result
+            ≡ (nat_lt 0 (units_at (slice_get self.now part)) && list_any (λ q. nat_eq q part) (parts self.now number)) }
     {
         0 < units_at(self.list.as_slice(), part) && self.is_part(number, part)
     }

@@ -4,7 +4,7 @@ use Rattle.std.specs.Cmp.Lexicographic.{pointwise, same_text}
 use Rattle.std.proofs.lemmas.List.Folds.{list_any-append}
 use Rattle.std.specs.List.{list_any}
 use Rattle.sched_records.specs.declared.records.Record.{Record}
-use Rattle.sched_records.specs.Kept.{has_name}
+use Rattle.sched_records.specs.RecordNames.{has_name}
 
 or_false : (b : Bool) → (b || false) ≡ b
 or_false true = refl

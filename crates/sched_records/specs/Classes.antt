@@ -5,9 +5,9 @@ use Rattle.std.specs.List.{list_any}
 use Rattle.std.specs.declared.option.Option.{Option}
 use Rattle.sched_records.specs.declared.class.Class.{Class}
 use Rattle.sched_records.specs.declared.class.Class.TheVariants as class
-use Rattle.sched_records.specs.declared.class.Form.{Form}
-use Rattle.sched_records.specs.declared.class.Form.TheVariants as forms
-use Rattle.sched_records.specs.declared.class.Sort.TheVariants as sorts
+use Rattle.sched_records.specs.declared.class.ValueForm.{ValueForm}
+use Rattle.sched_records.specs.declared.class.ValueForm.TheVariants as forms
+use Rattle.sched_records.specs.declared.class.AtomForm.TheVariants as atom_form
 use Rattle.sched_records.specs.declared.field.Field.{Field}
 use Rattle.sched_records.specs.declared.field.Field.TheVariants as field
 use Rattle.sched_records.specs.Fields.{field_number}
@@ -30,22 +30,23 @@ class_name class.SchedRead = codes "SchedRead"
 abbrev pub classes : List Class
 classes = class.SchedMachineModel ∷ class.ProcResource ∷ class.ProcResGroup ∷ class.WriteRes ∷ class.SchedWriteRes ∷ class.ReadAdvance ∷ class.RegisterFile ∷ class.RetireControlUnit ∷ class.LoadQueue ∷ class.StoreQueue ∷ class.InstRW ∷ class.SchedWrite ∷ class.SchedRead ∷ []
 
-abbrev pub class_of : List ℕ → Option Class
+-- the class of a name
+unfoldable pub class_of : List ℕ → Option Class
 class_of name = find (λ c. pointwise nat_eq name (class_name c)) classes
 
 -- the forms of the arguments, in order
-abbrev pub arguments : Class → List Form
+abbrev pub arguments : Class → List ValueForm
 arguments class.SchedMachineModel = []
-arguments class.ProcResource = forms.One sorts.Number ∷ []
-arguments class.ProcResGroup = forms.Each sorts.Name ∷ []
-arguments class.WriteRes = forms.One sorts.Name ∷ forms.Each sorts.Name ∷ []
-arguments class.SchedWriteRes = forms.Each sorts.Name ∷ []
-arguments class.ReadAdvance = forms.One sorts.Name ∷ forms.One sorts.Number ∷ forms.Each sorts.Name ∷ []
-arguments class.RegisterFile = forms.One sorts.Number ∷ forms.Each sorts.Name ∷ forms.Each sorts.Number ∷ forms.Each sorts.Truth ∷ forms.One sorts.Number ∷ forms.One sorts.Truth ∷ []
-arguments class.RetireControlUnit = forms.One sorts.Number ∷ forms.One sorts.Number ∷ []
-arguments class.LoadQueue = forms.One sorts.Name ∷ []
-arguments class.StoreQueue = forms.One sorts.Name ∷ []
-arguments class.InstRW = forms.Each sorts.Name ∷ forms.Instrs ∷ []
+arguments class.ProcResource = forms.One atom_form.Number ∷ []
+arguments class.ProcResGroup = forms.Each atom_form.Name ∷ []
+arguments class.WriteRes = forms.One atom_form.Name ∷ forms.Each atom_form.Name ∷ []
+arguments class.SchedWriteRes = forms.Each atom_form.Name ∷ []
+arguments class.ReadAdvance = forms.One atom_form.Name ∷ forms.One atom_form.Number ∷ forms.Each atom_form.Name ∷ []
+arguments class.RegisterFile = forms.One atom_form.Number ∷ forms.Each atom_form.Name ∷ forms.Each atom_form.Number ∷ forms.Each atom_form.Truth ∷ forms.One atom_form.Number ∷ forms.One atom_form.Truth ∷ []
+arguments class.RetireControlUnit = forms.One atom_form.Number ∷ forms.One atom_form.Number ∷ []
+arguments class.LoadQueue = forms.One atom_form.Name ∷ []
+arguments class.StoreQueue = forms.One atom_form.Name ∷ []
+arguments class.InstRW = forms.Each atom_form.Name ∷ forms.Instrs ∷ []
 arguments class.SchedWrite = []
 arguments class.SchedRead = []
 

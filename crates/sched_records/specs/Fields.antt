@@ -2,9 +2,9 @@
 use Rattle.std.specs.Prelude.{ℕ, List, [], ◌∷◌, codes, nat_eq, find}
 use Rattle.std.specs.Cmp.Lexicographic.{pointwise}
 use Rattle.std.specs.declared.option.Option.{Option}
-use Rattle.sched_records.specs.declared.class.Form.{Form}
-use Rattle.sched_records.specs.declared.class.Form.TheVariants as forms
-use Rattle.sched_records.specs.declared.class.Sort.TheVariants as sorts
+use Rattle.sched_records.specs.declared.class.ValueForm.{ValueForm}
+use Rattle.sched_records.specs.declared.class.ValueForm.TheVariants as forms
+use Rattle.sched_records.specs.declared.class.AtomForm.TheVariants as atom_form
 use Rattle.sched_records.specs.declared.field.Field.{Field}
 use Rattle.sched_records.specs.declared.field.Field.TheVariants as field
 
@@ -60,29 +60,30 @@ field_number field.UnsupportedFeatures = 21
 abbrev pub all_fields : List Field
 all_fields = field.BeginGroup ∷ field.BufferSize ∷ field.CompleteModel ∷ field.EnableIntervals ∷ field.EndGroup ∷ field.FullInstRWOverlapCheck ∷ field.HighLatency ∷ field.IssueWidth ∷ field.Latency ∷ field.LoadLatency ∷ field.LoopMicroOpBufferSize ∷ field.MicroOpBufferSize ∷ field.MispredictPenalty ∷ field.NoModel ∷ field.NumMicroOps ∷ field.PostRAScheduler ∷ field.ReleaseAtCycles ∷ field.RetireOOO ∷ field.SchedModel ∷ field.SingleIssue ∷ field.Unsupported ∷ field.UnsupportedFeatures ∷ []
 
-abbrev pub field_of : List ℕ → Option Field
+-- the field of a name
+unfoldable pub field_of : List ℕ → Option Field
 field_of name = find (λ f. pointwise nat_eq name (field_name f)) all_fields
 
-abbrev pub form_of : Field → Form
-form_of field.BeginGroup = forms.One sorts.Truth
-form_of field.BufferSize = forms.One sorts.Number
+abbrev pub form_of : Field → ValueForm
+form_of field.BeginGroup = forms.One atom_form.Truth
+form_of field.BufferSize = forms.One atom_form.Number
 form_of field.CompleteModel = forms.Any
 form_of field.EnableIntervals = forms.Any
-form_of field.EndGroup = forms.One sorts.Truth
+form_of field.EndGroup = forms.One atom_form.Truth
 form_of field.FullInstRWOverlapCheck = forms.Any
 form_of field.HighLatency = forms.Any
-form_of field.IssueWidth = forms.One sorts.Number
-form_of field.Latency = forms.One sorts.Number
+form_of field.IssueWidth = forms.One atom_form.Number
+form_of field.Latency = forms.One atom_form.Number
 form_of field.LoadLatency = forms.Any
 form_of field.LoopMicroOpBufferSize = forms.Any
-form_of field.MicroOpBufferSize = forms.One sorts.Number
+form_of field.MicroOpBufferSize = forms.One atom_form.Number
 form_of field.MispredictPenalty = forms.Any
 form_of field.NoModel = forms.Any
-form_of field.NumMicroOps = forms.One sorts.Number
+form_of field.NumMicroOps = forms.One atom_form.Number
 form_of field.PostRAScheduler = forms.Any
-form_of field.ReleaseAtCycles = forms.Each sorts.Number
-form_of field.RetireOOO = forms.One sorts.Truth
-form_of field.SchedModel = forms.One sorts.Name
-form_of field.SingleIssue = forms.One sorts.Truth
-form_of field.Unsupported = forms.One sorts.Truth
+form_of field.ReleaseAtCycles = forms.Each atom_form.Number
+form_of field.RetireOOO = forms.One atom_form.Truth
+form_of field.SchedModel = forms.One atom_form.Name
+form_of field.SingleIssue = forms.One atom_form.Truth
+form_of field.Unsupported = forms.One atom_form.Truth
 form_of field.UnsupportedFeatures = forms.Any

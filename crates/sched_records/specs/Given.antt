@@ -21,18 +21,18 @@ abbrev pub may_give : Option Class → Field → Bool
 may_give None f = true
 may_give (Some c) f = has_field c f
 
-abbrev pub allowed : Option Class → Option Field → Option Field
-allowed c None = None
-allowed c (Some f) = if may_give c f then Some f else None
+abbrev pub field_allowed : Option Class → Option Field → Option Field
+field_allowed c None = None
+field_allowed c (Some f) = if may_give c f then Some f else None
 
-abbrev pub once : List Given → Lexeme → Field → Result Field TableRefusal
-once given t f = if list_any (is_given_by f) given then Err (fault t faults.RepeatedField) else Ok f
+abbrev pub not_repeated : List Given → Lexeme → Field → Result Field TableRefusal
+not_repeated given t f = if list_any (is_given_by f) given then Err (fault t faults.RepeatedField) else Ok f
 
 unfoldable pub field_at : Option Class → List Given → List Lexeme → Parsed Field
 field_at c given ts = do
   n ← name_at ts
-  f ← ok_or (allowed c (field_of n.0)) (fault (first_of ts) faults.UnknownField)
-  g ← once given (first_of ts) f
+  f ← ok_or (field_allowed c (field_of n.0)) (fault (first_of ts) faults.UnknownField)
+  g ← not_repeated given (first_of ts) f
   Ok (g, n.1)
 
 unfoldable pub given_at : Option Class → List Given → List Lexeme → Parsed Given

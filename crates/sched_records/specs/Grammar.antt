@@ -3,8 +3,8 @@ use Rattle.std.specs.Prelude.{ℕ, List, [], ◌∷◌, drop, codes, nat_eq, Boo
 use Rattle.std.specs.Cmp.Lexicographic.{pointwise}
 use Rattle.std.specs.List.{list_any}
 use Rattle.std.specs.declared.result.Result.{Result}
-use Rattle.sched_records.specs.declared.piece.Kind.{Kind}
-use Rattle.sched_records.specs.declared.piece.Kind.TheVariants as kinds
+use Rattle.sched_records.specs.declared.piece.TokenKind.{TokenKind}
+use Rattle.sched_records.specs.declared.piece.TokenKind.TheVariants as kinds
 use Rattle.sched_records.specs.declared.refusal.TableKind.{TableKind}
 use Rattle.sched_records.specs.declared.refusal.TableKind.TheVariants as faults
 use Rattle.sched_records.specs.declared.refusal.TableRefusal.{TableRefusal}
@@ -22,19 +22,19 @@ Parsed A = Result (A × List Lexeme) TableRefusal
 abbrev pub fault : Lexeme → TableKind → TableRefusal
 fault t kind = record { line = t.line; kind = kind }
 
-abbrev pub is_name : Kind → Bool
+abbrev pub is_name : TokenKind → Bool
 is_name kinds.Name = true
 is_name _ = false
 
-abbrev pub is_operator : Kind → Bool
+abbrev pub is_operator : TokenKind → Bool
 is_operator kinds.Operator = true
 is_operator _ = false
 
-abbrev pub is_the_end : Kind → Bool
+abbrev pub is_the_end : TokenKind → Bool
 is_the_end kinds.End = true
 is_the_end _ = false
 
-abbrev pub has_sign : ℕ → Kind → Bool
+abbrev pub has_sign : ℕ → TokenKind → Bool
 has_sign b (kinds.Sign c) = nat_eq c b
 has_sign b _ = false
 

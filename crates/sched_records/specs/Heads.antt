@@ -11,12 +11,13 @@ use Rattle.sched_records.specs.declared.known.Head.{Head}
 use Rattle.sched_records.specs.declared.known.Doing.TheVariants as doing
 use Rattle.sched_records.specs.declared.known.Step.{Step}
 use Rattle.sched_records.specs.declared.known.Step.TheVariants as steps
+use Rattle.sched_records.specs.declared.limits.TheConstants.{MOST_RECORDS}
 use Rattle.sched_records.specs.Tokens.{Lexeme, first_of}
 use Rattle.sched_records.specs.Grammar.{◌>>=◌, Parsed, fault, is_name, is_sign, refusal, sign_at, name_at}
 use Rattle.sched_records.specs.Classes.{class_name, class_of, arguments, needed}
 use Rattle.sched_records.specs.Forms.{value_as}
 use Rattle.sched_records.specs.Members.{members}
-use Rattle.sched_records.specs.Kept.{has_name}
+use Rattle.sched_records.specs.RecordNames.{has_name}
 
 -- a record with what its body and the scopes around it give
 abbrev pub record_of : Known → Head → List Given → Record
@@ -77,5 +78,5 @@ head_at k ts = do
 abbrev pub def_at : Known → List Lexeme → Parsed Step
 def_at k ts =
     if is_name (first_of (drop 1 ts)).kind && has_name k.kept (first_of (drop 1 ts)).bytes then Err (fault (first_of ts) faults.RepeatedName) else
-    if nat_le 8192 (length k.kept) then Err (fault (first_of ts) faults.TooMany) else
+    if nat_le MOST_RECORDS (length k.kept) then Err (fault (first_of ts) faults.TooMany) else
     head_at k (drop 1 ts)

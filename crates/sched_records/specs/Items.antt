@@ -11,6 +11,7 @@ use Rattle.sched_records.specs.declared.known.Doing.{Doing}
 use Rattle.sched_records.specs.declared.known.Doing.TheVariants as doing
 use Rattle.sched_records.specs.declared.known.Step.{Step}
 use Rattle.sched_records.specs.declared.known.Step.TheVariants as steps
+use Rattle.sched_records.specs.declared.limits.TheConstants.{MOST_SCOPES}
 use Rattle.sched_records.specs.Tokens.{Lexeme, first_of}
 use Rattle.sched_records.specs.Grammar.{◌>>=◌, Parsed, fault, is_name, is_sign, is_word, is_among, reserved, types, refusal, refusal_among, sign_at}
 use Rattle.sched_records.specs.Classes.{class_of}
@@ -69,7 +70,7 @@ in_braces [] = false
 in_braces (s ∷ ss) = s.braced
 
 abbrev pub let_item_at : Known → List Lexeme → Parsed Step
-let_item_at k ts = if nat_le 16 (length k.scopes) then Err (fault (first_of ts) faults.TooMany) else Ok (steps.Next (doing.Scope []), drop 1 ts)
+let_item_at k ts = if nat_le MOST_SCOPES (length k.scopes) then Err (fault (first_of ts) faults.TooMany) else Ok (steps.Next (doing.Scope []), drop 1 ts)
 
 abbrev pub item_at : Known → List Lexeme → Parsed Step
 item_at k ts =

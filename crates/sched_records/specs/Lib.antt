@@ -13,7 +13,7 @@ pub mod Elements
 pub mod Forms
 pub mod Members
 pub mod Order
-pub mod Kept
+pub mod RecordNames
 pub mod Given
 pub mod Heads
 pub mod Items

@@ -3,8 +3,8 @@ use Rattle.std.specs.Prelude.{ℕ, ◌+◌, ◌-◌, List, [], ◌∷◌, length
 use Rattle.std.specs.Cmp.Lexicographic.{pointwise}
 use Rattle.std.specs.List.{starts_with, prefix_len}
 use Rattle.std.specs.declared.option.Option.{Option}
-use Rattle.sched_records.specs.declared.piece.Kind.{Kind}
-use Rattle.sched_records.specs.declared.piece.Kind.TheVariants as kinds
+use Rattle.sched_records.specs.declared.piece.TokenKind.{TokenKind}
+use Rattle.sched_records.specs.declared.piece.TokenKind.TheVariants as kinds
 use Rattle.sched_records.specs.declared.piece.Piece.{Piece}
 
 -- ---- bytes
@@ -75,11 +75,11 @@ number_len text = if nat_eq (digits_len (drop (sign_len text) text)) 0 then 0 el
 
 -- ---- the piece that begins a text
 
-abbrev pub piece : Kind → ℕ → Piece
+abbrev pub piece : TokenKind → ℕ → Piece
 piece kind size = record { kind = kind; size = size }
 
 -- a comment or a string; one that never ends takes the rest of the text
-abbrev pub closed : Kind → List ℕ → Option ℕ → Piece
+abbrev pub closed : TokenKind → List ℕ → Option ℕ → Piece
 closed kind text None = piece kinds.Cut (length text)
 closed kind text (Some size) = piece kind size
 
@@ -91,11 +91,11 @@ abbrev pub string : List ℕ → Piece
 string text = closed kinds.Quoted text (string_end 1 (drop 1 text))
 
 -- `instregex` is TableGen's own work wherever it stands
-abbrev pub name_kind : List ℕ → Kind
+abbrev pub name_kind : List ℕ → TokenKind
 name_kind name = if pointwise nat_eq name (codes "instregex") then kinds.Operator else kinds.Name
 
 -- a byte that stands for itself
-abbrev pub byte_kind : ℕ → Kind
+abbrev pub byte_kind : ℕ → TokenKind
 byte_kind b = if is_sign b then kinds.Sign b else if is_operator b then kinds.Operator else kinds.Stray
 
 -- the token that is no string

@@ -1,28 +1,28 @@
 -- The tokens of a text with their lines.
 use Rattle.std.specs.Prelude.{ℕ, ◌+◌, ◌-◌, List, [], ◌∷◌, take, drop, nat_eq, Bool, true, false, zero, suc, count_by, if◌then◌else◌}
-use Rattle.sched_records.specs.declared.piece.Kind.{Kind}
-use Rattle.sched_records.specs.declared.piece.Kind.TheVariants as kinds
+use Rattle.sched_records.specs.declared.piece.TokenKind.{TokenKind}
+use Rattle.sched_records.specs.declared.piece.TokenKind.TheVariants as kinds
 use Rattle.sched_records.specs.declared.piece.Piece.{Piece}
 use Rattle.sched_records.specs.Pieces.{piece_at}
 
 -- a token, its line counted from 1, and its bytes
 pub record Lexeme : Type 0 where
   pub line : ℕ
-  pub kind : Kind
+  pub kind : TokenKind
   pub bytes : List ℕ
 
 abbrev pub feeds : List ℕ → ℕ
 feeds text = count_by (λ b. nat_eq b 10) text
 
-abbrev pub is_quoted : Kind → Bool
+abbrev pub is_quoted : TokenKind → Bool
 is_quoted kinds.Quoted = true
 is_quoted _ = false
 
-abbrev pub is_cut : Kind → Bool
+abbrev pub is_cut : TokenKind → Bool
 is_cut kinds.Cut = true
 is_cut _ = false
 
-abbrev pub is_gap : Kind → Bool
+abbrev pub is_gap : TokenKind → Bool
 is_gap kinds.Gap = true
 is_gap _ = false
 

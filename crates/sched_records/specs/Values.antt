@@ -3,8 +3,8 @@ use Rattle.std.specs.Prelude.{ℕ, List, [], ◌∷◌, ◌++◌, drop, codes, B
 use Rattle.std.specs.Option.{ok_or, option_or}
 use Rattle.std.specs.declared.option.Option.{Option}
 use Rattle.std.specs.declared.result.Result.{Result}
-use Rattle.sched_records.specs.declared.piece.Kind.{Kind}
-use Rattle.sched_records.specs.declared.piece.Kind.TheVariants as kinds
+use Rattle.sched_records.specs.declared.piece.TokenKind.{TokenKind}
+use Rattle.sched_records.specs.declared.piece.TokenKind.TheVariants as kinds
 use Rattle.sched_records.specs.declared.records.Atom.{Atom}
 use Rattle.sched_records.specs.declared.records.Atom.TheVariants as atoms
 use Rattle.sched_records.specs.declared.records.Value.TheVariants as values
@@ -17,7 +17,7 @@ use Rattle.sched_records.specs.Tokens.{Lexeme, first_of}
 use Rattle.sched_records.specs.Numbers.{literal_of}
 use Rattle.sched_records.specs.Grammar.{◌>>=◌, Parsed, fault, is_name, is_sign, is_among, reserved, refusal, word_at}
 
-abbrev pub is_number : Kind → Bool
+abbrev pub is_number : TokenKind → Bool
 is_number kinds.Number = true
 is_number _ = false
 
@@ -25,7 +25,7 @@ is_number _ = false
 abbrev pub wide_of : Lexeme → Option ℕ
 wide_of t = if is_number t.kind && (literal_of t.bytes).wide then Some t.line else None
 
-abbrev pub atom_of : Kind → List ℕ → Option Atom
+abbrev pub atom_of : TokenKind → List ℕ → Option Atom
 atom_of kinds.Number bytes = Some (atoms.Number (literal_of bytes).value)
 atom_of kinds.Quoted bytes = Some (atoms.Quoted bytes)
 atom_of kinds.Name bytes = Some (atoms.Word bytes)

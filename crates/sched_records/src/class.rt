@@ -5,9 +5,9 @@ ghost use Rattle.sched_records.specs.Classes.{class_name, class_of, arguments, n
 
 use crate::field::Field;
 
-/// What stands alone or in a list of a form.
+/// The form of what stands alone or in a list.
 #[derive(Clone, Copy, Debug)]
-pub enum Sort {
+pub(crate) enum AtomForm {
     Number,
     Name,
     /// `true`, `false`, 1 or 0.
@@ -16,30 +16,43 @@ pub enum Sort {
 
 /// The form of a value.
 #[derive(Clone, Copy, Debug)]
-pub enum Form {
-    One(Sort),
-    /// A list, each element of the sort.
-    Each(Sort),
+pub(crate) enum ValueForm {
+    One(AtomForm),
+    /// A list, each element of the form.
+    Each(AtomForm),
     /// `(instrs ..)`.
     Instrs,
     Any,
 }
 
-/// A class of records.
+/// A class of records, under its name in a table.
 #[derive(Clone, Copy, Debug)]
 pub enum Class {
+    /// The machine as a whole.
     SchedMachineModel,
+    /// A resource: units that are alike.
     ProcResource,
+    /// A resource made of others.
     ProcResGroup,
+    /// What the instructions of a write class take of the machine.
     WriteRes,
+    /// The same of a write class that is the record itself.
     SchedWriteRes,
+    /// By how many cycles a read may come later than the issue.
     ReadAdvance,
+    /// The physical registers for some register classes.
     RegisterFile,
+    /// The reorder buffer.
     RetireControlUnit,
+    /// The resource whose buffer bounds the loads.
     LoadQueue,
+    /// The resource whose buffer bounds the stores.
     StoreQueue,
+    /// The write and the reads of some opcodes, in place of their default classes.
     InstRW,
+    /// A name for a write class.
     SchedWrite,
+    /// A name for a read class.
     SchedRead,
 }
 
@@ -72,6 +85,7 @@ const WRITE_FIELDS: [Field; 9] = [
 ];
 
 impl Class {
+    /// The name of the class, as a table writes it.
     pub fn name(self) -> &'static str
         ensures { result.now ≡ class_name self }
     {
@@ -93,39 +107,45 @@ impl Class {
     }
 
     /// The forms of the arguments, in order.
-    pub fn arguments(self) -> &'static [Form]
+    pub(crate) fn arguments(self) -> &'static [ValueForm]
         ensures { result.now ≡ arguments self }
     {
         match self {
             Class::SchedMachineModel => &[],
-            Class::ProcResource => &[Form::One(Sort::Number)],
-            Class::ProcResGroup => &[Form::Each(Sort::Name)],
-            Class::WriteRes => &[Form::One(Sort::Name), Form::Each(Sort::Name)],
-            Class::SchedWriteRes => &[Form::Each(Sort::Name)],
+            Class::ProcResource => &[ValueForm::One(AtomForm::Number)],
+            Class::ProcResGroup => &[ValueForm::Each(AtomForm::Name)],
+            Class::WriteRes => &[
+                ValueForm::One(AtomForm::Name),
+                ValueForm::Each(AtomForm::Name),
+            ],
+            Class::SchedWriteRes => &[ValueForm::Each(AtomForm::Name)],
             Class::ReadAdvance => &[
-                Form::One(Sort::Name),
-                Form::One(Sort::Number),
-                Form::Each(Sort::Name),
+                ValueForm::One(AtomForm::Name),
+                ValueForm::One(AtomForm::Number),
+                ValueForm::Each(AtomForm::Name),
             ],
             Class::RegisterFile => &[
-                Form::One(Sort::Number),
-                Form::Each(Sort::Name),
-                Form::Each(Sort::Number),
-                Form::Each(Sort::Truth),
-                Form::One(Sort::Number),
-                Form::One(Sort::Truth),
+                ValueForm::One(AtomForm::Number),
+                ValueForm::Each(AtomForm::Name),
+                ValueForm::Each(AtomForm::Number),
+                ValueForm::Each(AtomForm::Truth),
+                ValueForm::One(AtomForm::Number),
+                ValueForm::One(AtomForm::Truth),
             ],
-            Class::RetireControlUnit => &[Form::One(Sort::Number), Form::One(Sort::Number)],
-            Class::LoadQueue => &[Form::One(Sort::Name)],
-            Class::StoreQueue => &[Form::One(Sort::Name)],
-            Class::InstRW => &[Form::Each(Sort::Name), Form::Instrs],
+            Class::RetireControlUnit => &[
+                ValueForm::One(AtomForm::Number),
+                ValueForm::One(AtomForm::Number),
+            ],
+            Class::LoadQueue => &[ValueForm::One(AtomForm::Name)],
+            Class::StoreQueue => &[ValueForm::One(AtomForm::Name)],
+            Class::InstRW => &[ValueForm::Each(AtomForm::Name), ValueForm::Instrs],
             Class::SchedWrite => &[],
             Class::SchedRead => &[],
         }
     }
 
     /// How many of the arguments have to be there.
-    pub fn needed(self) -> usize
+    pub(crate) fn needed(self) -> usize
         ensures { result ≡ needed self }
     {
         match self {
@@ -146,7 +166,7 @@ impl Class {
     }
 
     /// The fields, in the byte order of their names.
-    pub fn fields(self) -> &'static [Field]
+    pub(crate) fn fields(self) -> &'static [Field]
         ensures { result.now ≡ fields self }
     {
         match self {
@@ -180,7 +200,7 @@ impl Class {
     }
 
     /// Whether records of the class have the field.
-    pub fn has(self, field: Field) -> bool
+    pub(crate) fn has(self, field: Field) -> bool
         ensures { result ≡ has_field self field }
     {
         self.fields().iter().any(|own| field.is(*own))
@@ -198,7 +218,8 @@ fn named(classes: &[Class], name: &[u8]) -> Option<Class>
     None
 }
 
-/// The class of a name.
+/// The class of a name; none for any other text.
+#[tactic(auto, unfolding(crate::specs::Classes::class_of))]
 pub fn class_of(name: &[u8]) -> Option<Class>
     ensures { result ≡ class_of name.now }
 {

@@ -3,9 +3,9 @@ ghost use Rattle.std.specs.Prelude.{◌≡◌, nat_eq, find};
 ghost use Rattle.std.specs.Cmp.Lexicographic.{pointwise};
 ghost use Rattle.sched_records.specs.Fields.{field_name, field_number, field_of, form_of};
 
-use crate::class::{Form, Sort};
+use crate::class::{AtomForm, ValueForm};
 
-/// A field of some class, in the byte order of the names.
+/// A field of some class, under its name in a table; in the byte order of the names.
 #[derive(Clone, Copy, Debug)]
 pub enum Field {
     BeginGroup,
@@ -58,6 +58,7 @@ const FIELDS: [Field; 22] = [
 ];
 
 impl Field {
+    /// The name of the field, as a table writes it.
     pub fn name(self) -> &'static str
         ensures { result.now ≡ field_name self }
     {
@@ -88,32 +89,32 @@ impl Field {
     }
 
     /// The form that each value of the field has.
-    pub fn form(self) -> Form
+    pub(crate) fn form(self) -> ValueForm
         ensures { result ≡ form_of self }
     {
         match self {
-            Field::BeginGroup => Form::One(Sort::Truth),
-            Field::BufferSize => Form::One(Sort::Number),
-            Field::CompleteModel => Form::Any,
-            Field::EnableIntervals => Form::Any,
-            Field::EndGroup => Form::One(Sort::Truth),
-            Field::FullInstRWOverlapCheck => Form::Any,
-            Field::HighLatency => Form::Any,
-            Field::IssueWidth => Form::One(Sort::Number),
-            Field::Latency => Form::One(Sort::Number),
-            Field::LoadLatency => Form::Any,
-            Field::LoopMicroOpBufferSize => Form::Any,
-            Field::MicroOpBufferSize => Form::One(Sort::Number),
-            Field::MispredictPenalty => Form::Any,
-            Field::NoModel => Form::Any,
-            Field::NumMicroOps => Form::One(Sort::Number),
-            Field::PostRAScheduler => Form::Any,
-            Field::ReleaseAtCycles => Form::Each(Sort::Number),
-            Field::RetireOOO => Form::One(Sort::Truth),
-            Field::SchedModel => Form::One(Sort::Name),
-            Field::SingleIssue => Form::One(Sort::Truth),
-            Field::Unsupported => Form::One(Sort::Truth),
-            Field::UnsupportedFeatures => Form::Any,
+            Field::BeginGroup => ValueForm::One(AtomForm::Truth),
+            Field::BufferSize => ValueForm::One(AtomForm::Number),
+            Field::CompleteModel => ValueForm::Any,
+            Field::EnableIntervals => ValueForm::Any,
+            Field::EndGroup => ValueForm::One(AtomForm::Truth),
+            Field::FullInstRWOverlapCheck => ValueForm::Any,
+            Field::HighLatency => ValueForm::Any,
+            Field::IssueWidth => ValueForm::One(AtomForm::Number),
+            Field::Latency => ValueForm::One(AtomForm::Number),
+            Field::LoadLatency => ValueForm::Any,
+            Field::LoopMicroOpBufferSize => ValueForm::Any,
+            Field::MicroOpBufferSize => ValueForm::One(AtomForm::Number),
+            Field::MispredictPenalty => ValueForm::Any,
+            Field::NoModel => ValueForm::Any,
+            Field::NumMicroOps => ValueForm::One(AtomForm::Number),
+            Field::PostRAScheduler => ValueForm::Any,
+            Field::ReleaseAtCycles => ValueForm::Each(AtomForm::Number),
+            Field::RetireOOO => ValueForm::One(AtomForm::Truth),
+            Field::SchedModel => ValueForm::One(AtomForm::Name),
+            Field::SingleIssue => ValueForm::One(AtomForm::Truth),
+            Field::Unsupported => ValueForm::One(AtomForm::Truth),
+            Field::UnsupportedFeatures => ValueForm::Any,
         }
     }
 
@@ -136,7 +137,8 @@ fn named(fields: &[Field], name: &[u8]) -> Option<Field>
     None
 }
 
-/// The field of a name.
+/// The field of a name, of whatever class; none for any other text.
+#[tactic(auto, unfolding(crate::specs::Fields::field_of))]
 pub fn field_of(name: &[u8]) -> Option<Field>
     ensures { result ≡ field_of name.now }
 {

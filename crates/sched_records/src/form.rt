@@ -3,9 +3,9 @@ ghost use Rattle.std.specs.Prelude.{◌≡◌, ◌<◌, length, OnOk};
 ghost use Rattle.std.specs.List.{list_all};
 ghost use Rattle.sched_records.specs.Shown.{seen};
 ghost use Rattle.sched_records.specs.Gives.{Gives};
-ghost use Rattle.sched_records.specs.Forms.{is_bit, is_truth_word, has_sort, is_one, is_each, is_instrs, has_form, is_of, within, checked, value_as};
+ghost use Rattle.sched_records.specs.Forms.{is_bit, is_truth_word, has_atom_form, is_one, is_each, is_instrs, has_form, is_of, unless_wide, checked, value_as};
 
-use crate::class::{Form, Sort};
+use crate::class::{AtomForm, ValueForm};
 use crate::records::{Atom, Value};
 use crate::refusal::{TableKind, TableRefusal};
 use crate::tokens::{Token, Tokens};
@@ -28,13 +28,13 @@ fn is_truth_word(word: &[u8]) -> bool
     word == b"true".as_slice() || word == b"false".as_slice()
 }
 
-fn has_sort(sort: Sort, atom: &Atom) -> bool
-    ensures { result ≡ has_sort sort atom.now }
+fn has_atom_form(form: AtomForm, atom: &Atom) -> bool
+    ensures { result ≡ has_atom_form form atom.now }
 {
-    match sort {
-        Sort::Number => matches!(atom, Atom::Number(_)),
-        Sort::Name => matches!(atom, Atom::Word(_)),
-        Sort::Truth => match atom {
+    match form {
+        AtomForm::Number => matches!(atom, Atom::Number(_)),
+        AtomForm::Name => matches!(atom, Atom::Word(_)),
+        AtomForm::Truth => match atom {
             Atom::Number(number) => is_bit(*number),
             Atom::Quoted(_) => false,
             Atom::Word(word) => is_truth_word(word.as_bytes()),
@@ -42,47 +42,47 @@ fn has_sort(sort: Sort, atom: &Atom) -> bool
     }
 }
 
-fn is_one(sort: Sort, value: &Value) -> bool
-    ensures { result ≡ is_one sort value.now }
+fn is_one(form: AtomForm, value: &Value) -> bool
+    ensures { result ≡ is_one form value.now }
 {
     match value {
-        Value::One(atom) => has_sort(sort, atom),
+        Value::One(atom) => has_atom_form(form, atom),
         _ => false,
     }
 }
 
-fn all_have(sort: Sort, atoms: &[Atom]) -> bool
-    ensures { result ≡ list_all (has_sort sort) atoms.now }
+fn all_have(form: AtomForm, atoms: &[Atom]) -> bool
+    ensures { result ≡ list_all (has_atom_form form) atoms.now }
 {
     for atom in atoms {
-        if !has_sort(sort, atom) {
+        if !has_atom_form(form, atom) {
             return false;
         }
     }
     true
 }
 
-fn is_each(sort: Sort, value: &Value) -> bool
-    ensures { result ≡ is_each sort value.now }
+fn is_each(form: AtomForm, value: &Value) -> bool
+    ensures { result ≡ is_each form value.now }
 {
     match value {
-        Value::List(atoms) => all_have(sort, atoms.as_slice()),
+        Value::List(atoms) => all_have(form, atoms.as_slice()),
         _ => false,
     }
 }
 
-fn has_form(form: Form, value: &Value) -> bool
+fn has_form(form: ValueForm, value: &Value) -> bool
     ensures { result ≡ has_form form value.now }
 {
     match form {
-        Form::One(sort) => is_one(sort, value),
-        Form::Each(sort) => is_each(sort, value),
-        Form::Instrs => matches!(value, Value::Instrs(_)),
-        Form::Any => true,
+        ValueForm::One(form) => is_one(form, value),
+        ValueForm::Each(form) => is_each(form, value),
+        ValueForm::Instrs => matches!(value, Value::Instrs(_)),
+        ValueForm::Any => true,
     }
 }
 
-fn is_of(form: Option<Form>, value: &Value) -> bool
+fn is_of(form: Option<ValueForm>, value: &Value) -> bool
     ensures { result ≡ is_of form value.now }
 {
     match form {
@@ -91,8 +91,8 @@ fn is_of(form: Option<Form>, value: &Value) -> bool
     }
 }
 
-fn within(wide: Option<u32>, value: Value) -> Result<Value, TableRefusal>
-    ensures { result ≡ within wide value }
+fn unless_wide(wide: Option<u32>, value: Value) -> Result<Value, TableRefusal>
+    ensures { result ≡ unless_wide wide value }
 {
     match wide {
         None => Ok(value),
@@ -103,20 +103,20 @@ fn within(wide: Option<u32>, value: Value) -> Result<Value, TableRefusal>
     }
 }
 
-fn checked(form: Option<Form>, token: &Token<'_>, found: Found) -> Result<Value, TableRefusal>
+fn checked(form: Option<ValueForm>, token: &Token<'_>, found: Found) -> Result<Value, TableRefusal>
     ensures { result ≡ checked form (seen token.now) found }
 {
     if !is_of(form, &found.value) {
         return Err(token.fault(TableKind::BadValue));
     }
-    within(found.wide, found.value)
+    unless_wide(found.wide, found.value)
 }
 
 /// Reads a value of a form. Where no form is left, the value is one argument too many.
 #[tactic(auto, unfolding(crate::specs::Forms::value_as))]
 pub fn value_as(
     alloc: Global,
-    form: Option<Form>,
+    form: Option<ValueForm>,
     tokens: &mut Tokens<'_>,
 ) -> Result<Value, TableRefusal>
     ensures read { Gives (λ v. (v, tokens.new)) result (value_as form tokens.old) }

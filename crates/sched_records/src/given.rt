@@ -2,7 +2,7 @@
 ghost use Rattle.std.specs.Prelude.{◌≡◌, ◌<◌, length, OnOk};
 ghost use Rattle.sched_records.specs.Shown.{seen};
 ghost use Rattle.sched_records.specs.Gives.{Gives};
-ghost use Rattle.sched_records.specs.Given.{may_give, allowed, once, field_at, given_at};
+ghost use Rattle.sched_records.specs.Given.{may_give, field_allowed, not_repeated, field_at, given_at};
 
 use crate::class::Class;
 use crate::field::{Field, field_of};
@@ -22,8 +22,8 @@ fn may_give(class: Option<Class>, field: Field) -> bool
     }
 }
 
-fn allowed(class: Option<Class>, field: Option<Field>) -> Option<Field>
-    ensures { result ≡ allowed class field }
+fn field_allowed(class: Option<Class>, field: Option<Field>) -> Option<Field>
+    ensures { result ≡ field_allowed class field }
 {
     match field {
         None => None,
@@ -37,8 +37,8 @@ fn allowed(class: Option<Class>, field: Option<Field>) -> Option<Field>
     }
 }
 
-fn once(given: &[Given], token: &Token<'_>, field: Field) -> Result<Field, TableRefusal>
-    ensures { result ≡ once given.now (seen token.now) field }
+fn not_repeated(given: &[Given], token: &Token<'_>, field: Field) -> Result<Field, TableRefusal>
+    ensures { result ≡ not_repeated given.now (seen token.now) field }
 {
     if is_given(field, given) {
         Err(token.fault(TableKind::RepeatedField))
@@ -59,8 +59,8 @@ fn field(
 {
     let token = tokens.first();
     let bytes = name(tokens)?;
-    let field = allowed(class, field_of(bytes)).ok_or(token.fault(TableKind::UnknownField))?;
-    once(given, &token, field)
+    let field = field_allowed(class, field_of(bytes)).ok_or(token.fault(TableKind::UnknownField))?;
+    not_repeated(given, &token, field)
 }
 
 /// Reads FIELD = VALUE.

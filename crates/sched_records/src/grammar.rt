@@ -7,7 +7,7 @@ ghost use Rattle.sched_records.specs.Shown.{seen};
 ghost use Rattle.sched_records.specs.Gives.{Gives};
 ghost use Rattle.sched_records.specs.Grammar.{fault, is_name, is_operator, is_the_end, has_sign, is_sign, is_word, is_among, reserved, types, refusal, refusal_among, sign_at, word_at, name_at};
 
-use crate::piece::Kind;
+use crate::piece::TokenKind;
 use crate::refusal::{TableKind, TableRefusal};
 use crate::tokens::{Token, Tokens};
 
@@ -29,23 +29,23 @@ pub const RESERVED: [&str; 11] = [
 /// The types that begin a typed field.
 pub const TYPES: [&str; 7] = ["bit", "bits", "code", "dag", "int", "list", "string"];
 
-pub fn is_name(kind: Kind) -> bool
+pub fn is_name(kind: TokenKind) -> bool
     ensures { result ≡ is_name kind }
 {
-    matches!(kind, Kind::Name)
+    matches!(kind, TokenKind::Name)
 }
 
-fn is_operator(kind: Kind) -> bool
+fn is_operator(kind: TokenKind) -> bool
     ensures { result ≡ is_operator kind }
 {
-    matches!(kind, Kind::Operator)
+    matches!(kind, TokenKind::Operator)
 }
 
-fn has_sign(sign: u8, kind: Kind) -> bool
+fn has_sign(sign: u8, kind: TokenKind) -> bool
     ensures { result ≡ has_sign sign kind }
 {
     match kind {
-        Kind::Sign(b) => b == sign,
+        TokenKind::Sign(b) => b == sign,
         _ => false,
     }
 }
@@ -86,7 +86,7 @@ impl<'a> Token<'a> {
     pub fn is_the_end(&self) -> bool
         ensures { result ≡ is_the_end (seen self.now).kind }
     {
-        matches!(self.kind, Kind::End)
+        matches!(self.kind, TokenKind::End)
     }
 
     pub fn is_word(&self, word: &[u8]) -> bool

@@ -3,10 +3,10 @@ ghost use Rattle.std.specs.Prelude.{◌≡◌, [], ◌∷◌, ◌++◌, OnOk, If
 ghost use Rattle.sched_records.specs.Known.{known_after, doing_after, is_item, may_end};
 
 use crate::class::Class;
-use crate::kept::Kept;
 use crate::members::{Given, Scope};
 use crate::records::{Record, Records, Value};
 use crate::scopes::Scopes;
+use crate::so_far::RecordsSoFar;
 use crate::tokens::Tokens;
 use mca_fixed::{Items, Name, NoMemory};
 use std::alloc::Global;
@@ -49,7 +49,7 @@ pub enum Step {
 #[derive(Drop)]
 pub struct Known {
     pub scopes: Scopes,
-    pub kept: Kept,
+    pub kept: RecordsSoFar,
 }
 
 impl Known {
@@ -59,7 +59,7 @@ impl Known {
     {
         Known {
             scopes: Scopes::new(alloc),
-            kept: Kept::new(alloc),
+            kept: RecordsSoFar::new(alloc),
         }
     }
 

@@ -6,7 +6,7 @@ ghost use Rattle.sched_records.specs.Pieces.{is_space, is_letter, is_digit, is_n
 
 /// What a piece of a text is.
 #[derive(Clone, Copy, Debug, PartialEq, Eq)]
-pub enum Kind {
+pub enum TokenKind {
     /// Blanks and line feeds, or a comment: part of no token.
     Gap,
     /// A letter or `_`, then letters, digits and `_`.
@@ -30,7 +30,7 @@ pub enum Kind {
 /// A piece at a place of a text: what it is, and how many bytes it takes.
 #[derive(Clone, Copy, Debug, PartialEq, Eq)]
 pub struct Piece {
-    pub kind: Kind,
+    pub kind: TokenKind,
     pub size: usize,
 }
 
@@ -239,12 +239,12 @@ fn number_len(text: &[u8]) -> usize
     if digits == 0 { 0 } else { sign + digits }
 }
 
-fn closed(kind: Kind, text: &[u8], end: Option<usize>) -> Piece
+fn closed(kind: TokenKind, text: &[u8], end: Option<usize>) -> Piece
     ensures { result ≡ closed kind text.now end }
 {
     match end {
         None => Piece {
-            kind: Kind::Cut,
+            kind: TokenKind::Cut,
             size: text.len(),
         },
         Some(size) => Piece { kind, size },
@@ -259,7 +259,7 @@ fn comment(text: &[u8]) -> Piece
     ensures within { result.size ≤ length text.now }
     ensures some { 0 < result.size }
 {
-    closed(Kind::Gap, text, comment_end(&text[2..]))
+    closed(TokenKind::Gap, text, comment_end(&text[2..]))
 }
 
 /// The string that begins a text.
@@ -270,16 +270,16 @@ fn string(text: &[u8]) -> Piece
     ensures within { result.size ≤ length text.now }
     ensures some { 0 < result.size }
 {
-    closed(Kind::Quoted, text, string_end(&text[1..]))
+    closed(TokenKind::Quoted, text, string_end(&text[1..]))
 }
 
-fn name_kind(name: &[u8]) -> Kind
+fn name_kind(name: &[u8]) -> TokenKind
     ensures { result ≡ name_kind name.now }
 {
     if name == b"instregex".as_slice() {
-        Kind::Operator
+        TokenKind::Operator
     } else {
-        Kind::Name
+        TokenKind::Name
     }
 }
 
@@ -292,13 +292,13 @@ fn piece_from(first: u8, text: &[u8]) -> Piece
 {
     if is_space(first) {
         return Piece {
-            kind: Kind::Gap,
+            kind: TokenKind::Gap,
             size: Run::Spaces.len(text),
         };
     }
     if text.starts_with(b"//") {
         return Piece {
-            kind: Kind::Gap,
+            kind: TokenKind::Gap,
             size: Run::Line.len(text),
         };
     }
@@ -328,7 +328,7 @@ fn token_from(first: u8, text: &[u8]) -> Piece
     let size = number_len(text);
     if 0 < size {
         return Piece {
-            kind: Kind::Number,
+            kind: TokenKind::Number,
             size,
         };
     }
@@ -339,15 +339,15 @@ fn token_from(first: u8, text: &[u8]) -> Piece
 }
 
 /// What a byte is that stands for itself.
-fn byte_kind(b: u8) -> Kind
+fn byte_kind(b: u8) -> TokenKind
     ensures { result ≡ byte_kind b }
 {
     if is_sign(b) {
-        Kind::Sign(b)
+        TokenKind::Sign(b)
     } else if is_operator(b) {
-        Kind::Operator
+        TokenKind::Operator
     } else {
-        Kind::Stray
+        TokenKind::Stray
     }
 }
 
@@ -360,7 +360,7 @@ pub fn piece_at(text: &[u8]) -> Piece
 {
     match text {
         [] => Piece {
-            kind: Kind::End,
+            kind: TokenKind::End,
             size: 0,
         },
         [first, ..] => piece_from(*first, text),

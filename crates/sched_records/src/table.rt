@@ -7,23 +7,25 @@ ghost use Rattle.sched_records.specs.Order.{in_byte_order};
 ghost use Rattle.sched_records.specs.declared.class.Class.{Class as ClassOf};
 ghost use Rattle.sched_records.specs.declared.members.Given.{Given as GivenOf};
 ghost use Rattle.sched_records.specs.declared.records.Record.{Record as RecordOf};
+ghost use Rattle.mca_fixed.specs.declared.limits.TheConstants.{MOST_TEXT_BYTES};
+ghost use Rattle.sched_records.specs.declared.limits.TheConstants.{MOST_RECORDS};
 ghost use Rattle.sched_records.specs.declared.refusal.TableKind.TheVariants.{Memory};
 ghost use Rattle.sched_records.specs.declared.refusal.TableRefusal.{TableRefusal as RefusalOf};
 
+use crate::items::phrase;
 use crate::known::{Doing, Known, may_end};
-use crate::phrase::phrase;
 use crate::records::Records;
 use crate::refusal::TableRefusal;
 use crate::tokens::Tokens;
 use std::alloc::Global;
 
-/// Reads the records of a flat scheduling table of at most 8,388,608 bytes: records of the classes of
+/// Reads the records of a flat scheduling table of at most `MOST_TEXT_BYTES`: records of the classes of
 /// LLVM's TargetSchedule.td, and `let` scopes around them, with no other part of TableGen. A text that
 /// has a fault has no records, and its first fault is answered with the line of its token.
 pub fn read_table(alloc: Global, text: &[u8]) -> Result<Records, TableRefusal>
-    requires { length text.now ≤ 8388608 }
+    requires { length text.now ≤ MOST_TEXT_BYTES }
     ensures records { IfOk result (λ records. HasRecords text.now records) }
-    ensures few { IfOk result (λ records. length records ≤ 8192) }
+    ensures few { IfOk result (λ records. length records ≤ MOST_RECORDS) }
     ensures fault { IfErr result (λ f. UnlessMemory f.kind (HasFault text.now f)) }
     ensures no_line { IfErr result (λ f. f.kind ≡ Memory → f.line ≡ 0) }
 {
@@ -50,7 +52,7 @@ pub fn one_answer()
     ensures not_both { (text : List ℕ) (a : List RecordOf) (f : RefusalOf) → HasRecords text a → HasFault text f → ⊥ }
 {}
 
-/// A text has at most 8,192 records.
+/// A text has at most `MOST_RECORDS` records.
 pub fn few_records()
-    ensures { (text : List ℕ) (records : List RecordOf) → HasRecords text records → length records ≤ 8192 }
+    ensures { (text : List ℕ) (records : List RecordOf) → HasRecords text records → length records ≤ MOST_RECORDS }
 {}

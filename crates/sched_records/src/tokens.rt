@@ -2,14 +2,14 @@
 ghost use Rattle.std.specs.Prelude.{◌≡◌, ℕ, ◌+◌, ◌^◌, ◌<◌, ◌≤◌, length, drop, true, false};
 ghost use Rattle.sched_records.specs.Tokens.{feeds, Lexeme, bytes_of, line_of, is_gap, tokens_from, first_of};
 
-use crate::piece::{Kind, Piece, piece_at};
+use crate::piece::{Piece, TokenKind, piece_at};
 use std::marker::Model;
 
 /// A token, the line that it stands in, and its bytes; those of a string without its `"`.
 #[derive(Clone, Copy)]
 pub struct Token<'a> {
     pub line: u32,
-    pub kind: Kind,
+    pub kind: TokenKind,
     pub bytes: &'a [u8],
 }
 
@@ -36,7 +36,7 @@ fn bytes_of(piece: Piece, text: &[u8]) -> &[u8]
     ensures { result.now ≡ bytes_of piece text.now }
 {
     match piece.kind {
-        Kind::Quoted => behind_first(&text[..piece.size.saturating_sub(1)]),
+        TokenKind::Quoted => behind_first(&text[..piece.size.saturating_sub(1)]),
         _ => &text[..piece.size],
     }
 }
@@ -46,15 +46,15 @@ fn line_of(piece: Piece, line: u32, text: &[u8]) -> u32
     ensures { result ≡ line_of piece line text.now }
 {
     match piece.kind {
-        Kind::Cut => line + feeds(text),
+        TokenKind::Cut => line + feeds(text),
         _ => line,
     }
 }
 
-fn is_gap(kind: Kind) -> bool
+fn is_gap(kind: TokenKind) -> bool
     ensures { result ≡ is_gap kind }
 {
-    matches!(kind, Kind::Gap)
+    matches!(kind, TokenKind::Gap)
 }
 
 /// The tokens from a place of a text on. Contracts see them as a list, whose last is the end of the
@@ -120,7 +120,7 @@ impl<'a> Tokens<'a> {
             Some(token) => token,
             None => Token {
                 line: 0,
-                kind: Kind::End,
+                kind: TokenKind::End,
                 bytes: &[],
             },
         }

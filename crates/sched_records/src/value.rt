@@ -8,7 +8,7 @@ ghost use Rattle.sched_records.specs.Elements.{ended, element_at, name_ended, li
 
 use crate::grammar::{RESERVED, name, word};
 use crate::number::literal_of;
-use crate::piece::Kind;
+use crate::piece::TokenKind;
 use crate::records::{Atom, Value};
 use crate::refusal::{TableKind, TableRefusal};
 use crate::tokens::{Token, Tokens};
@@ -44,10 +44,10 @@ pub struct ListedName {
     pub last: bool,
 }
 
-fn is_number(kind: Kind) -> bool
+fn is_number(kind: TokenKind) -> bool
     ensures { result ≡ is_number kind }
 {
-    matches!(kind, Kind::Number)
+    matches!(kind, TokenKind::Number)
 }
 
 fn wide_of(token: &Token<'_>) -> Option<u32>
@@ -67,9 +67,9 @@ fn atom_of(alloc: Global, token: &Token<'_>) -> Result<Atom, TableRefusal>
         return Err(token.fault(TableKind::NotFlat));
     }
     match token.kind {
-        Kind::Number => Ok(Atom::Number(literal_of(token.bytes).value)),
-        Kind::Quoted => Ok(Atom::Quoted(Name::from_bytes(alloc, token.bytes)?)),
-        Kind::Name => Ok(Atom::Word(Name::from_bytes(alloc, token.bytes)?)),
+        TokenKind::Number => Ok(Atom::Number(literal_of(token.bytes).value)),
+        TokenKind::Quoted => Ok(Atom::Quoted(Name::from_bytes(alloc, token.bytes)?)),
+        TokenKind::Name => Ok(Atom::Word(Name::from_bytes(alloc, token.bytes)?)),
         _ => Err(token.refusal()),
     }
 }

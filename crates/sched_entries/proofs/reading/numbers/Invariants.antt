@@ -1,6 +1,0 @@
-use Rattle.std.proofs.Common.{◌≡◌, ◌++◌, drop, map}
-use Rattle.sched_entries.specs.Reading.{number_of}
-use Rattle.sched_entries.proofs.reading.numbers.Given as goal
-
-abbrev pub invariant-loop-atom : goal.invariant-loop-atom
-invariant-loop-atom l = l.found.items ++ map number_of (drop l.atom-index l.atoms) ≡ map number_of l.atoms

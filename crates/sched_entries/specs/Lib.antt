@@ -1,9 +1,0 @@
-pub mod Reading
-pub mod Names
-pub mod Opcodes
-pub mod Entries
-pub mod Places
-pub mod Known
-pub mod Noted
-pub mod Seen
-pub mod InRange

@@ -1,0 +1,10 @@
+pub mod Reading
+pub mod Names
+pub mod Opcodes
+pub mod Noted
+pub mod Entries
+pub mod Places
+pub mod Known
+pub mod Seen
+pub mod InRange
+pub mod EntryTests
