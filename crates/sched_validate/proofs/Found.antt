@@ -3,15 +3,16 @@ use Rattle.std.proofs.Common.{◌≡◌, ℕ, List, Some, ap, subst}
 use Rattle.std.specs.Prelude.{Option, take, slice_get}
 use Rattle.std.specs.List.{filter_map}
 use Rattle.sched_checks.specs.Resources.{resource_in, resources_of}
-use Rattle.sched_entries.specs.declared.entry.Entry.{Entry}
-use Rattle.sched_entries.specs.declared.entry.Entry.TheVariants as entry
-use Rattle.sched_entries.specs.declared.entry.Model.{Model}
-use Rattle.sched_entries.specs.declared.entry.Resource.{Resource}
-use Rattle.sched_entries.specs.declared.entry.Write.{Write}
-use Rattle.sched_entries.specs.declared.entry.Advance.{Advance}
-use Rattle.sched_entries.specs.declared.entry.File.{File}
-use Rattle.sched_entries.specs.declared.entry.Retirement.{Retirement}
-use Rattle.sched_validate.specs.Lists.{model_in, file_in, retirement_in}
+use Rattle.sched_resolve.specs.declared.entry.Entry.{Entry}
+use Rattle.sched_resolve.specs.declared.entry.Entry.TheVariants as entry
+use Rattle.sched_resolve.specs.declared.entry.Model.{Model}
+use Rattle.sched_resolve.specs.declared.entry.Resource.{Resource}
+use Rattle.sched_resolve.specs.declared.entry.Write.{Write}
+use Rattle.sched_resolve.specs.declared.entry.Advance.{Advance}
+use Rattle.sched_resolve.specs.declared.entry.File.{File}
+use Rattle.sched_resolve.specs.declared.entry.Retirement.{Retirement}
+use Rattle.sched_resolve.specs.declared.entry.Rewrite.{Rewrite}
+use Rattle.sched_validate.specs.Lists.{model_in, file_in, retirement_in, rewrite_in}
 use Rattle.sched_validate.specs.Classes.{write_in, advance_in}
 use Rattle.sched_validate.proofs.KindLists.{Origin, from_list}
 use Rattle.sched_validate.proofs.Sound.{IsSound, IsHealthy}
@@ -52,3 +53,7 @@ is_file_entry _ b h = absurd cc
 pub is_retirement_entry : (a : Entry) (b : Retirement) → retirement_in a ≡ Some b → a ≡ entry.Retirement b
 is_retirement_entry (entry.Retirement x) b h = (let e : x ≡ b = cc in ap entry.Retirement e)
 is_retirement_entry _ b h = absurd cc
+
+pub is_rewrite_entry : (a : Entry) (b : Rewrite) → rewrite_in a ≡ Some b → a ≡ entry.Rewrite b
+is_rewrite_entry (entry.Rewrite x) b h = (let e : x ≡ b = cc in ap entry.Rewrite e)
+is_rewrite_entry _ b h = absurd cc

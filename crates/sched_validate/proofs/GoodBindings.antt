@@ -11,15 +11,16 @@ use Rattle.machine_model.specs.Valid.{no_class}
 use Rattle.machine_model.specs.declared.answers.Binding.{Binding}
 use Rattle.machine_model.specs.declared.answers.ClassAnswer.TheVariants.{Unsupported, Class}
 use Rattle.sched_checks.specs.Checks.{same_op}
-use Rattle.sched_entries.specs.declared.entry.Advance.{Advance}
-use Rattle.sched_entries.specs.declared.entry.Defaults.{Defaults}
-use Rattle.sched_entries.specs.declared.entry.Entry.{Entry}
-use Rattle.sched_entries.specs.declared.entry.Entry.TheVariants as entry
-use Rattle.sched_entries.specs.declared.entry.Rewrite.{Rewrite}
-use Rattle.sched_entries.specs.declared.entry.Write.{Write}
+use Rattle.sched_resolve.specs.declared.entry.Advance.{Advance}
+use Rattle.sched_resolve.specs.declared.entry.Defaults.{Defaults}
+use Rattle.sched_resolve.specs.declared.entry.Entry.{Entry}
+use Rattle.sched_resolve.specs.declared.entry.Entry.TheVariants as entry
+use Rattle.sched_resolve.specs.declared.entry.Rewrite.{Rewrite}
+use Rattle.sched_resolve.specs.declared.entry.Write.{Write}
 use Rattle.sched_validate.specs.Classes.{advance_in, writes_of, advances_of, lists, is_general, cycles_or, advance_after, op_number, no_defaults, read_class, is_unsupported, answer_by, answer_of, rewrite_for, class_for}
 use Rattle.sched_validate.specs.Lists.{rewrites_of}
-use Rattle.sched_validate.specs.Places.{IsPlace, ArePlaces}
+use Rattle.sched_validate.specs.Places.{IsPlace}
+use Rattle.sched_validate.proofs.Places.{ArePlaces}
 use Rattle.sched_validate.proofs.Found.{IsKind, kind_of, is_advance_entry}
 use Rattle.sched_validate.proofs.Ranges.{inside}
 use Rattle.sched_validate.proofs.Sound.{IsHealthy}

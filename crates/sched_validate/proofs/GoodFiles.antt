@@ -11,11 +11,11 @@ use Rattle.std.proofs.Common.{get_or}
 use Rattle.machine_model.specs.declared.facts.FileShare.{FileShare}
 use Rattle.sched_checks.specs.Resources.{count_of}
 use Rattle.sched_checks.specs.Checks.{is_outside, is_file, class_has}
-use Rattle.sched_entries.specs.declared.entry.Entry.{Entry}
-use Rattle.sched_entries.specs.declared.entry.Entry.TheVariants as entry
-use Rattle.sched_entries.specs.declared.entry.File.{File}
-use Rattle.sched_entries.specs.declared.entry.Registers.{Registers}
-use Rattle.sched_entries.specs.declared.entry.Registers.TheVariants as registers
+use Rattle.sched_resolve.specs.declared.entry.Entry.{Entry}
+use Rattle.sched_resolve.specs.declared.entry.Entry.TheVariants as entry
+use Rattle.sched_resolve.specs.declared.entry.File.{File}
+use Rattle.sched_resolve.specs.declared.entry.Registers.{Registers}
+use Rattle.sched_resolve.specs.declared.entry.Registers.TheVariants as registers
 use Rattle.sched_validate.specs.Lists.{file_in, files_of}
 use Rattle.sched_validate.specs.Files.{cost, share_by, share_in, share_from}
 use Rattle.sched_validate.proofs.KindLists.{sum_kind, sum_ones}

@@ -9,12 +9,12 @@ use Rattle.machine_model.specs.Valid.{AreLimits}
 use Rattle.machine_model.specs.declared.tuning.Tuning.{Tuning}
 use Rattle.sched_checks.specs.Resources.{count_of, resources_of}
 use Rattle.sched_checks.specs.Checks.{is_outside, is_model}
-use Rattle.sched_entries.specs.declared.entry.Entry.{Entry}
-use Rattle.sched_entries.specs.declared.entry.Entry.TheVariants as entry
-use Rattle.sched_entries.specs.declared.entry.Model.{Model}
-use Rattle.sched_entries.specs.declared.entry.Queue.{Queue}
-use Rattle.sched_entries.specs.declared.entry.Resource.{Resource}
-use Rattle.sched_entries.specs.declared.entry.Retirement.{Retirement}
+use Rattle.sched_resolve.specs.declared.entry.Entry.{Entry}
+use Rattle.sched_resolve.specs.declared.entry.Entry.TheVariants as entry
+use Rattle.sched_resolve.specs.declared.entry.Model.{Model}
+use Rattle.sched_resolve.specs.declared.entry.Queue.{Queue}
+use Rattle.sched_resolve.specs.declared.entry.Resource.{Resource}
+use Rattle.sched_resolve.specs.declared.entry.Retirement.{Retirement}
 use Rattle.sched_validate.specs.Lists.{model_in, models_of, retirement_in, retirements_of, load_queues_of, store_queues_of}
 use Rattle.sched_validate.specs.Machine.{or_own, no_model, model_of, reorder_by, retire_by, buffer_at, bound_at, bound_by, limits_of}
 use Rattle.sched_validate.proofs.Found.{IsKind, kind_of, is_model_entry, is_retirement_entry}

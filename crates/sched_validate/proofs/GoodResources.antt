@@ -10,11 +10,11 @@ use Rattle.std.proofs.lemmas.Option.{slice_get_within, slice_get_cases}
 use Rattle.std.proofs.Common.{get_or}
 use Rattle.sched_checks.specs.Resources.{own_units, is_group, group_at, units_at, resource_in, resources_of, plain_at, parts_in, total, with_part, with_parts}
 use Rattle.sched_checks.specs.Checks.{is_outside, is_resource, entry_units, bad_units, is_empty_makeup, has_group, unknown_member, is_group_member}
-use Rattle.sched_entries.specs.declared.entry.Entry.{Entry}
-use Rattle.sched_entries.specs.declared.entry.Entry.TheVariants as entry
-use Rattle.sched_entries.specs.declared.entry.Makeup.{Makeup}
-use Rattle.sched_entries.specs.declared.entry.Makeup.TheVariants as makeup
-use Rattle.sched_entries.specs.declared.entry.Resource.{Resource}
+use Rattle.sched_resolve.specs.declared.entry.Entry.{Entry}
+use Rattle.sched_resolve.specs.declared.entry.Entry.TheVariants as entry
+use Rattle.sched_resolve.specs.declared.entry.Makeup.{Makeup}
+use Rattle.sched_resolve.specs.declared.entry.Makeup.TheVariants as makeup
+use Rattle.sched_resolve.specs.declared.entry.Resource.{Resource}
 use Rattle.sched_validate.specs.Units.{first_unit}
 use Rattle.sched_validate.specs.Places.{members_of}
 use Rattle.sched_validate.proofs.KindLists.{sum_kind, sum_ones}

@@ -11,9 +11,9 @@ use Rattle.machine_model.specs.Valid.{IsWrite, IsUse, no_use}
 use Rattle.machine_model.specs.declared.facts.Use.{Use}
 use Rattle.sched_checks.specs.Resources.{count_of, resources_of, place_or_first, uses_by, total, share}
 use Rattle.sched_checks.specs.Checks.{is_outside, is_unknown}
-use Rattle.sched_entries.specs.declared.entry.Entry.{Entry}
-use Rattle.sched_entries.specs.declared.entry.Entry.TheVariants as entry
-use Rattle.sched_entries.specs.declared.entry.Write.{Write}
+use Rattle.sched_resolve.specs.declared.entry.Entry.{Entry}
+use Rattle.sched_resolve.specs.declared.entry.Entry.TheVariants as entry
+use Rattle.sched_resolve.specs.declared.entry.Write.{Write}
 use Rattle.sched_validate.specs.Classes.{write_in, writes_of, eight, facts_of, hold_or_one}
 use Rattle.sched_validate.proofs.Found.{IsKind, kind_of, is_write_entry}
 use Rattle.sched_validate.proofs.Ranges.{inside, low_count, high_count, true_from_not}

@@ -1,3 +1,4 @@
+mod Places
 mod Sound
 mod KindLists
 mod Counts
@@ -8,6 +9,7 @@ mod Found
 mod GoodResources
 mod UnitOwners
 mod GoodFiles
+mod FileOf
 mod GoodLimits
 mod GoodWrites
 mod GoodBindings
@@ -17,6 +19,7 @@ mod Shares
 mod Tuned
 mod Pairs
 mod Spans
-mod OpNumbers
 mod Needs
 mod Tables
+mod BoundCode
+mod Loops

@@ -9,26 +9,27 @@ use Rattle.std.specs.Option.{option_map}
 use Rattle.sched_checks.specs.Checks.{is_outside}
 use Rattle.sched_checks.specs.Resources.{count_of, own_units, place_or_first}
 use Rattle.sched_validate.proofs.Masks.{any_default}
-use Rattle.sched_entries.specs.InRange.{AreInRange, write_in, advance_in, resources_of, writes_of, advances_of}
-use Rattle.sched_entries.specs.declared.entry.Advance.{Advance}
-use Rattle.sched_entries.specs.declared.entry.Defaults.{Defaults}
-use Rattle.sched_entries.specs.declared.entry.Entry.{Entry}
-use Rattle.sched_entries.specs.declared.entry.Entry.TheVariants as entry
-use Rattle.sched_entries.specs.declared.entry.File.{File}
-use Rattle.sched_entries.specs.declared.entry.Makeup.{Makeup}
-use Rattle.sched_entries.specs.declared.entry.Makeup.TheVariants as makeup
-use Rattle.sched_entries.specs.declared.entry.Resource.{Resource}
-use Rattle.sched_entries.specs.declared.entry.Rewrite.{Rewrite}
-use Rattle.sched_entries.specs.declared.entry.Write.{Write}
+use Rattle.sched_resolve.specs.InRange.{AreInRange, write_in, advance_in, resources_of, writes_of, advances_of}
+use Rattle.sched_resolve.specs.declared.entry.Advance.{Advance}
+use Rattle.sched_resolve.specs.declared.entry.Defaults.{Defaults}
+use Rattle.sched_resolve.specs.declared.entry.Entry.{Entry}
+use Rattle.sched_resolve.specs.declared.entry.Entry.TheVariants as entry
+use Rattle.sched_resolve.specs.declared.entry.File.{File}
+use Rattle.sched_resolve.specs.declared.entry.Makeup.{Makeup}
+use Rattle.sched_resolve.specs.declared.entry.Makeup.TheVariants as makeup
+use Rattle.sched_resolve.specs.declared.entry.Resource.{Resource}
+use Rattle.sched_resolve.specs.declared.entry.Rewrite.{Rewrite}
+use Rattle.sched_resolve.specs.declared.entry.Write.{Write}
 use Rattle.sched_validate.specs.Advances.{IsSmallAdvance}
 use Rattle.sched_validate.specs.Buffers.{IsBuffered}
 use Rattle.sched_validate.specs.Classes.{hold_or_one, read_class, IsSmallWrite, IsSmallRewrite, IsSmallDefaults}
 use Rattle.sched_validate.specs.Files.{IsSmallFile}
 use Rattle.sched_validate.specs.Lists.{files_of, rewrites_of, rewrite_in}
-use Rattle.sched_validate.specs.Places.{members_of, IsPlace, ArePlaces}
+use Rattle.sched_validate.specs.Places.{members_of, IsPlace}
+use Rattle.sched_validate.proofs.Places.{ArePlaces}
 use Rattle.sched_validate.specs.Spans.{MembersArePlaces}
 use Rattle.sched_validate.specs.Units.{first_unit}
-use Rattle.sched_validate.proofs.Found.{is_resource_entry, is_write_entry, is_advance_entry}
+use Rattle.sched_validate.proofs.Found.{is_resource_entry, is_write_entry, is_advance_entry, is_rewrite_entry}
 use Rattle.sched_validate.proofs.GoodBindings.{IsGoodAdvance, good_advance}
 use Rattle.sched_validate.proofs.GoodFiles.{IsGoodFile, good_file}
 use Rattle.sched_validate.proofs.GoodResources.{IsGood, good, few, low_first}
@@ -44,10 +45,6 @@ contains_at xs k x h = (k, slice_get_within xs k x h, get_or_from_slice_get xs k
 
 contained : {B : Type 0} (f : Entry → Option B) (make : B → Entry) → ((a : Entry) (b : B) → f a ≡ Some b → a ≡ make b) → (es : List Entry) (k : ℕ) (b : B) → Origin f es k b → Contains es (make b)
 contained f make is es k b (i, a, r) = subst (Contains es) (is a b r.gives) (contains_at es i a r.at)
-
-is_rewrite_entry : (a : Entry) (b : Rewrite) → rewrite_in a ≡ Some b → a ≡ entry.Rewrite b
-is_rewrite_entry (entry.Rewrite x) b h = (let e : x ≡ b = cc in ap entry.Rewrite e)
-is_rewrite_entry _ b h = absurd cc
 
 member_low : (es : List Entry) (ds : List Defaults) → AreInRange es ds → (r : Resource) → Contains es (entry.Resource r) → (m : Makeup) → r.makeup ≡ m → (p : ℕ) → Contains (members_of m) (Some p) → p < length (resources_of es)
 member_low es ds is r there (makeup.Units n) made p (k, lt, e) = absurd (omega (arith, lt))

@@ -7,7 +7,7 @@ use Rattle.std.specs.declared.option.Option.{Option}
 use Rattle.std.proofs.lemmas.Bool.Decides.{nat_tests}
 use Rattle.std.proofs.lemmas.Bool.{and_parts}
 use Rattle.std.proofs.lemmas.List.Folds.{find-append}
-use Rattle.sched_entries.specs.declared.entry.Advance.{Advance}
+use Rattle.sched_resolve.specs.declared.entry.Advance.{Advance}
 use Rattle.sched_validate.specs.Advances.{same_pair}
 use Rattle.sched_validate.specs.Classes.{lists, is_general}
 

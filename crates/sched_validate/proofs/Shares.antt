@@ -2,7 +2,7 @@
 use Rattle.std.proofs.Common.{◌≡◌, ℕ, ◌+◌, ◌<◌, zero, suc, List, [], ◌∷◌, length, drop, refl, sym, subst, ap, ◌∙◌, arith, get_or, ℤ, Bool, true, false}
 use Rattle.std.specs.Prelude.{slice_get, if◌then◌else◌}
 use Rattle.sched_checks.specs.Checks.{class_has}
-use Rattle.sched_entries.specs.declared.entry.Registers.{Registers}
+use Rattle.sched_resolve.specs.declared.entry.Registers.{Registers}
 use Rattle.sched_validate.specs.Files.{cost, cost_or_one, share_by}
 
 drop_none : (k : ℕ) → drop {A = ℤ} k [] ≡ []

@@ -8,8 +8,8 @@ use Rattle.sched_checks.specs.Illness.{ill_kind, or_later, illness_from, illness
 use Rattle.sched_checks.specs.Resources.{resources_of}
 use Rattle.sched_checks.specs.declared.illness.IllKind.{IllKind}
 use Rattle.sched_checks.specs.declared.illness.TableIllness.{TableIllness}
-use Rattle.sched_entries.specs.declared.entry.Entry.{Entry}
-use Rattle.sched_entries.specs.declared.entry.Resource.{Resource}
+use Rattle.sched_resolve.specs.declared.entry.Entry.{Entry}
+use Rattle.sched_resolve.specs.declared.entry.Resource.{Resource}
 
 -- no check finds anything
 pub record IsSound (rs : List Resource) (earlier : List Entry) (e : Entry) : Type 0 where

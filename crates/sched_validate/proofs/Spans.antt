@@ -10,9 +10,9 @@ use Rattle.std.proofs.lemmas.List.Folds.{list_any-append}
 use Rattle.std.proofs.lemmas.List.Sums.{sum_by-cons}
 use Rattle.std.proofs.lemmas.Option.{slice_get-map, slice_get-get_or}
 use Rattle.sched_checks.specs.Resources.{own_units, units_at, is_group, plain_at, with_part, with_parts, parts_in, parts_at, parts}
-use Rattle.sched_entries.specs.declared.entry.Makeup.{Makeup}
-use Rattle.sched_entries.specs.declared.entry.Makeup.TheVariants as makeup
-use Rattle.sched_entries.specs.declared.entry.Resource.{Resource}
+use Rattle.sched_resolve.specs.declared.entry.Makeup.{Makeup}
+use Rattle.sched_resolve.specs.declared.entry.Makeup.TheVariants as makeup
+use Rattle.sched_resolve.specs.declared.entry.Resource.{Resource}
 use Rattle.sched_validate.specs.Places.{members_of, IsPlace}
 use Rattle.sched_validate.specs.Spans.{span_at, is_within, spans_from, spans_of, in_member}
 use Rattle.sched_validate.specs.Units.{first_unit, owns, has_unit}

@@ -3,11 +3,11 @@ use Rattle.std.proofs.Common.{◌≡◌, List, [], ◌∷◌, ◌++◌, length, 
 use Rattle.sched_checks.specs.declared.illness.IllKind.{IllKind}
 use Rattle.sched_checks.specs.declared.illness.IllKind.TheVariants as ill
 use Rattle.sched_records.specs.declared.records.Record.{Record}
-use Rattle.sched_entries.specs.Entries.{entries_from, entries_of, all_defaults}
-use Rattle.sched_entries.specs.InRange.{AreInRange}
-use Rattle.sched_entries.specs.declared.entry.Entry.{Entry}
-use Rattle.sched_entries.specs.declared.entry.Defaults.{Defaults}
-use Rattle.sched_entries.proofs.Told.{in_range}
+use Rattle.sched_resolve.specs.Entries.{entries_from, entries_of, all_defaults}
+use Rattle.sched_resolve.specs.InRange.{AreInRange}
+use Rattle.sched_resolve.specs.declared.entry.Entry.{Entry}
+use Rattle.sched_resolve.specs.declared.entry.Defaults.{Defaults}
+use Rattle.sched_resolve.proofs.Told.{in_range}
 use Rattle.sched_validate.specs.Validate.{UnlessMemory}
 
 as_many : (rs earlier rest : List Record) → length (entries_from rs earlier rest) ≡ length rest

@@ -7,9 +7,9 @@ use Rattle.std.proofs.lemmas.Bool.{and_parts, and_from, cases_order}
 use Rattle.std.proofs.lemmas.List.Sums.{sum_by-cons}
 use Rattle.unit_sets.specs.Below.{count_below}
 use Rattle.sched_checks.specs.Resources.{own_units, units_at, plain_at, with_part, with_parts, parts_in, parts_at, parts, total, share}
-use Rattle.sched_entries.specs.declared.entry.Makeup.{Makeup}
-use Rattle.sched_entries.specs.declared.entry.Makeup.TheVariants as makeup
-use Rattle.sched_entries.specs.declared.entry.Resource.{Resource}
+use Rattle.sched_resolve.specs.declared.entry.Makeup.{Makeup}
+use Rattle.sched_resolve.specs.declared.entry.Makeup.TheVariants as makeup
+use Rattle.sched_resolve.specs.declared.entry.Resource.{Resource}
 use Rattle.sched_validate.specs.Units.{first_unit, owns, has_unit}
 use Rattle.sched_validate.proofs.Counts.{count_none, count_interval, count_or, count_some, some_count}
 use Rattle.sched_validate.proofs.ListTests.{bool_same, is_in, any_some, any_at, IsDistinct, distinct_more}

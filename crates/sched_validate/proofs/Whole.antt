@@ -11,15 +11,15 @@ use Rattle.machine_model.specs.declared.answers.UnitOwner.{UnitOwner}
 use Rattle.machine_model.specs.declared.facts.FileShare.{FileShare}
 use Rattle.sched_checks.specs.Illness.{illness_of}
 use Rattle.sched_checks.specs.Resources.{count_of, resources_of, total, share}
-use Rattle.sched_entries.specs.declared.entry.Defaults.{Defaults}
-use Rattle.sched_entries.specs.declared.entry.Entry.{Entry}
-use Rattle.sched_entries.specs.declared.entry.File.{File}
-use Rattle.sched_entries.specs.declared.entry.Resource.{Resource}
-use Rattle.sched_entries.specs.declared.entry.Write.{Write}
+use Rattle.sched_resolve.specs.declared.entry.Defaults.{Defaults}
+use Rattle.sched_resolve.specs.declared.entry.Entry.{Entry}
+use Rattle.sched_resolve.specs.declared.entry.File.{File}
+use Rattle.sched_resolve.specs.declared.entry.Resource.{Resource}
+use Rattle.sched_resolve.specs.declared.entry.Write.{Write}
 use Rattle.sched_validate.specs.Classes.{write_in, advance_in, writes_of, advances_of, facts_of, no_facts}
 use Rattle.sched_validate.specs.Lists.{files_of}
 use Rattle.sched_validate.specs.Machine.{machine_of}
-use Rattle.sched_validate.specs.Places.{ArePlaces}
+use Rattle.sched_validate.proofs.Places.{ArePlaces}
 use Rattle.sched_validate.proofs.GoodBindings.{IsBound, binding_holds, small_advance, no_advance}
 use Rattle.sched_validate.proofs.GoodFiles.{IsGoodFile, IsHeld, good_file, few_files, held}
 use Rattle.sched_validate.proofs.GoodLimits.{limits_hold}
@@ -34,7 +34,7 @@ use Rattle.sched_validate.proofs.GoodWrites.{good_write, write_holds}
 abbrev pub Law : Type 0
 Law = (es : List Entry) (ds : List Defaults) (t : Tuning) → length es ≤ 8192 → ArePlaces es ds → illness_of es ≡ None → IsValidMachine 256 256 (machine_of es ds t)
 
-map_at : {X Y : Type 0} (f : X → Y) (xs : List X) (k : ℕ) (x : X) (d : Y) → slice_get xs k ≡ Some x → slice_index_or (map f xs) k d ≡ f x
+pub map_at : {X Y : Type 0} (f : X → Y) (xs : List X) (k : ℕ) (x : X) (d : Y) → slice_get xs k ≡ Some x → slice_index_or (map f xs) k d ≡ f x
 map_at f [] k x d h = absurd cc
 map_at f (y ∷ xs) zero x d h = (let e : y ≡ x = cc in ap f e)
 map_at f (y ∷ xs) (suc k) x d h = map_at f xs k x d h

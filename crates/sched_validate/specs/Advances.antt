@@ -2,7 +2,7 @@
 use Rattle.std.specs.Prelude.{◌≡◌, ℕ, int_le, pos, neg_ℤ, List, find, nat_eq, ◌&&◌, true, Bool}
 use Rattle.std.specs.Option.{option_map}
 use Rattle.indexmap.specs.IndexMap.{get}
-use Rattle.sched_entries.specs.declared.entry.Advance.{Advance}
+use Rattle.sched_resolve.specs.declared.entry.Advance.{Advance}
 use Rattle.sched_validate.specs.Classes.{lists, is_general}
 use Rattle.sched_validate.specs.declared.advances.Advances.{Advances}
 

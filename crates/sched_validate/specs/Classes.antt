@@ -1,25 +1,20 @@
 -- The scheduling classes of opcodes, and the advances of reads after writes.
-pub use Rattle.sched_entries.specs.InRange.{write_in, advance_in, writes_of, advances_of}
-use Rattle.std.specs.Prelude.{◌≡◌, ℕ, ◌-◌, ◌<◌, ◌≤◌, ◌^◌, ℤ, pos, List, [], ◌∷◌, ◌++◌, length, replicate, slice_get, slice_index_or, find, nat_eq, Bool, false, not, ◌&&◌, Some, None, if◌then◌else◌}
-use Rattle.std.specs.List.{list_any, position_or_len}
+pub use Rattle.rv_isa.specs.Opcodes.{op_number, same_op}
+pub use Rattle.cycle_rules.specs.Bind.{eight}
+pub use Rattle.sched_resolve.specs.InRange.{write_in, advance_in, writes_of, advances_of}
+use Rattle.std.specs.Prelude.{◌≡◌, ℕ, ◌<◌, ◌≤◌, ◌^◌, ℤ, pos, List, [], ◌∷◌, length, slice_get, slice_index_or, find, nat_eq, Bool, false, not, ◌&&◌, Some, None, if◌then◌else◌}
+use Rattle.std.specs.List.{list_any}
 use Rattle.std.specs.declared.option.Option.{Option}
 use Rattle.rv_isa.specs.declared.op.Op.{Op}
-use Rattle.rv_isa.specs.Opcodes.{opcodes}
-use Rattle.machine_model.specs.Valid.{no_class, no_use}
+use Rattle.machine_model.specs.Valid.{no_class}
 use Rattle.machine_model.specs.declared.answers.ClassAnswer.{ClassAnswer}
 use Rattle.machine_model.specs.declared.answers.ClassAnswer.TheVariants.{Missing, Unsupported, Class}
-use Rattle.machine_model.specs.declared.facts.Use.{Use}
 use Rattle.machine_model.specs.declared.facts.WriteFacts.{WriteFacts}
-use Rattle.sched_checks.specs.Checks.{same_op}
 use Rattle.sched_checks.specs.Resources.{count_of, place_or_first, uses_by}
-use Rattle.sched_entries.specs.declared.entry.Advance.{Advance}
-use Rattle.sched_entries.specs.declared.entry.Defaults.{Defaults}
-use Rattle.sched_entries.specs.declared.entry.Rewrite.{Rewrite}
-use Rattle.sched_entries.specs.declared.entry.Write.{Write}
-
--- the eight places for uses
-abbrev pub eight : List Use → List Use
-eight us = us ++ replicate (8 - length us) no_use
+use Rattle.sched_resolve.specs.declared.entry.Advance.{Advance}
+use Rattle.sched_resolve.specs.declared.entry.Defaults.{Defaults}
+use Rattle.sched_resolve.specs.declared.entry.Rewrite.{Rewrite}
+use Rattle.sched_resolve.specs.declared.entry.Write.{Write}
 
 -- the numbers of a write
 abbrev pub facts_of : Write → WriteFacts
@@ -62,10 +57,6 @@ cycles_or other (Some a) = a.cycles
 abbrev pub advance_after : List Advance → ℕ → ℕ → ℤ
 advance_after all read write = cycles_or (cycles_or (pos 0) (find (is_general read) all)) (find (lists read write) all)
 
--- the number of an opcode, in the order of the opcodes
-abbrev pub op_number : Op → ℕ
-op_number o = position_or_len (same_op o) opcodes
-
 abbrev pub no_defaults : Defaults
 no_defaults = record { write = None; rs1 = None; rs2 = None }
 
@@ -80,7 +71,8 @@ is_unsupported (Some w) = w.unsupported
 -- the answer for an opcode by the write and the reads that it has
 abbrev pub answer_by : List Write → Option ℕ → Option ℕ → Option ℕ → ClassAnswer
 answer_by ws None rs1 rs2 = Missing
-answer_by ws (Some k) rs1 rs2 = if is_unsupported (slice_get ws k) then Unsupported else Class (record { write = k; reads = read_class rs1 ∷ read_class rs2 ∷ [] })
+answer_by ws (Some k) rs1 rs2 = if is_unsupported (slice_get ws k) then Unsupported
+    else Class (record { write = k; reads = read_class rs1 ∷ read_class rs2 ∷ [] })
 
 -- those of the InstRW that names it, else those of its default classes
 abbrev pub answer_of : List Write → Defaults → Option Rewrite → ClassAnswer

@@ -7,6 +7,6 @@ pub mod Places
 pub mod Bind
 pub mod Advances
 pub mod Spans
-pub mod Kept
+pub mod MachineNumbers
 pub mod Validate
 pub mod Buffers

@@ -2,13 +2,13 @@
 use Rattle.std.specs.Prelude.{List, Some, None}
 use Rattle.std.specs.List.{filter_map}
 use Rattle.std.specs.declared.option.Option.{Option}
-use Rattle.sched_entries.specs.declared.entry.Entry.{Entry}
-use Rattle.sched_entries.specs.declared.entry.Entry.TheVariants as entry
-use Rattle.sched_entries.specs.declared.entry.Model.{Model}
-use Rattle.sched_entries.specs.declared.entry.File.{File}
-use Rattle.sched_entries.specs.declared.entry.Queue.{Queue}
-use Rattle.sched_entries.specs.declared.entry.Retirement.{Retirement}
-use Rattle.sched_entries.specs.declared.entry.Rewrite.{Rewrite}
+use Rattle.sched_resolve.specs.declared.entry.Entry.{Entry}
+use Rattle.sched_resolve.specs.declared.entry.Entry.TheVariants as entry
+use Rattle.sched_resolve.specs.declared.entry.Model.{Model}
+use Rattle.sched_resolve.specs.declared.entry.File.{File}
+use Rattle.sched_resolve.specs.declared.entry.Queue.{Queue}
+use Rattle.sched_resolve.specs.declared.entry.Retirement.{Retirement}
+use Rattle.sched_resolve.specs.declared.entry.Rewrite.{Rewrite}
 
 abbrev pub model_in : Entry → Option Model
 model_in (entry.Model m) = Some m

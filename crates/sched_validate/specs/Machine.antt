@@ -5,12 +5,12 @@ use Rattle.machine_model.specs.Meaning.{MachineMeaning}
 use Rattle.machine_model.specs.declared.limits.Limits.{Limits}
 use Rattle.machine_model.specs.declared.tuning.Tuning.{Tuning}
 use Rattle.sched_checks.specs.Resources.{count_of, resources_of}
-use Rattle.sched_entries.specs.declared.entry.Defaults.{Defaults}
-use Rattle.sched_entries.specs.declared.entry.Entry.{Entry}
-use Rattle.sched_entries.specs.declared.entry.Model.{Model}
-use Rattle.sched_entries.specs.declared.entry.Queue.{Queue}
-use Rattle.sched_entries.specs.declared.entry.Resource.{Resource}
-use Rattle.sched_entries.specs.declared.entry.Retirement.{Retirement}
+use Rattle.sched_resolve.specs.declared.entry.Defaults.{Defaults}
+use Rattle.sched_resolve.specs.declared.entry.Entry.{Entry}
+use Rattle.sched_resolve.specs.declared.entry.Model.{Model}
+use Rattle.sched_resolve.specs.declared.entry.Queue.{Queue}
+use Rattle.sched_resolve.specs.declared.entry.Resource.{Resource}
+use Rattle.sched_resolve.specs.declared.entry.Retirement.{Retirement}
 use Rattle.sched_validate.specs.Lists.{models_of, files_of, retirements_of, load_queues_of, store_queues_of, rewrites_of}
 use Rattle.sched_validate.specs.Units.{has_unit, owner_of}
 use Rattle.sched_validate.specs.Files.{share_from}

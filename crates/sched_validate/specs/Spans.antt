@@ -2,7 +2,7 @@
 use Rattle.std.specs.Prelude.{◌≡◌, ℕ, ◌+◌, ◌<◌, List, [], ◌∷◌, length, Contains, slice_get, slice_index_or, nat_lt, nat_le, Bool, false, ◌&&◌, Some, None}
 use Rattle.std.specs.declared.option.Option.{Option}
 use Rattle.sched_checks.specs.Resources.{own_units}
-use Rattle.sched_entries.specs.declared.entry.Resource.{Resource}
+use Rattle.sched_resolve.specs.declared.entry.Resource.{Resource}
 use Rattle.sched_validate.specs.Places.{members_of}
 use Rattle.sched_validate.specs.declared.layout.Span.{Span}
 use Rattle.unit_sets.specs.declared.set.UnitSet.{UnitSet}

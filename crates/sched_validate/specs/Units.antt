@@ -4,7 +4,7 @@ use Rattle.std.specs.List.{list_any}
 use Rattle.std.specs.declared.option.Option.{Option}
 use Rattle.machine_model.specs.declared.answers.UnitOwner.{UnitOwner}
 use Rattle.sched_checks.specs.Resources.{own_units, units_at, parts}
-use Rattle.sched_entries.specs.declared.entry.Resource.{Resource}
+use Rattle.sched_resolve.specs.declared.entry.Resource.{Resource}
 
 -- the first unit of a resource's own
 abbrev pub first_unit : List Resource → ℕ → ℕ
@@ -21,7 +21,8 @@ has_unit rs r u = list_any (owns rs u) (parts rs r)
 -- the resource that owns a unit, and the unit's place in it: the resources from number k on, whose units begin at first
 abbrev pub owner_from : List Resource → ℕ → ℕ → ℕ → Option UnitOwner
 owner_from [] k first u = None
-owner_from (r ∷ rs) k first u = if nat_lt u (first + own_units r.makeup) then Some (record { resource = k; place = u - first }) else owner_from rs (k + 1) (first + own_units r.makeup) u
+owner_from (r ∷ rs) k first u = if nat_lt u (first + own_units r.makeup) then Some (record { resource = k; place = u - first })
+    else owner_from rs (k + 1) (first + own_units r.makeup) u
 
 abbrev pub owner_of : List Resource → ℕ → Option UnitOwner
 owner_of rs u = owner_from rs 0 0 u

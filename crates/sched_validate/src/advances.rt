@@ -3,14 +3,14 @@ ghost use Rattle.std.specs.Prelude.{◌≡◌, ◌&&◌, ℕ, List, [], ◌∷�
 ghost use Rattle.std.specs.List.{list_any};
 ghost use Rattle.std.specs.Option.{option_or};
 ghost use Rattle.indexmap.specs.IndexMap.{get};
-ghost use Rattle.sched_entries.specs.declared.entry.Advance.{Advance as AdvanceOf};
+ghost use Rattle.sched_resolve.specs.declared.entry.Advance.{Advance as AdvanceOf};
 ghost use Rattle.sched_validate.specs.Advances.{same_pair, StandsFor, IsSmallAdvance};
 ghost use Rattle.sched_validate.specs.Classes.{advance_after};
 
-use crate::numbers::signed;
+use crate::narrow::signed;
 use indexmap::IndexMap;
 use mca_fixed::NoMemory;
-use sched_entries::Advance;
+use sched_resolve::Advance;
 use std::alloc::Global;
 
 /// The cycles of the advances that are supported: of a read after a write that one lists, and of a read
@@ -28,7 +28,8 @@ fn list_one(
     cycles: i32,
 ) -> Result<(), NoMemory>
     ensures { OnOk result ((read write : ℕ) → get same_pair listed.new (read, write)
-        ≡ option_or (get same_pair listed.old (read, write)) (if nat_eq key.0 read && nat_eq key.1 write then Some cycles else None)) }
+        ≡ option_or (get same_pair listed.old (read, write))
+        (if nat_eq key.0 read && nat_eq key.1 write then Some cycles else None)) }
 {
     if listed.get(&key).is_none() {
         listed.insert(key, cycles)?;
@@ -42,7 +43,8 @@ fn list_general(
     read: usize,
     cycles: i32,
 ) -> Result<(), NoMemory>
-    ensures { OnOk result ((r : ℕ) → get nat_eq general.new r ≡ option_or (get nat_eq general.old r) (if nat_eq read r then Some cycles else None)) }
+    ensures { OnOk result ((r : ℕ) → get nat_eq general.new r
+        ≡ option_or (get nat_eq general.old r) (if nat_eq read r then Some cycles else None)) }
 {
     if general.get(&read).is_none() {
         general.insert(read, cycles)?;
@@ -57,7 +59,8 @@ fn note_general(
     cycles: i32,
 ) -> Result<(), NoMemory>
     ensures { OnOk result ((r : ℕ) → get nat_eq general.new r
-        ≡ option_or (get nat_eq general.old r) (if nat_eq advance.now.read r && advance.now.general then Some cycles else None)) }
+        ≡ option_or (get nat_eq general.old r)
+        (if nat_eq advance.now.read r && advance.now.general then Some cycles else None)) }
 {
     if !advance.general {
         return Ok(());
@@ -81,7 +84,8 @@ fn list(
     cycles: i32,
 ) -> Result<(), NoMemory>
     ensures { OnOk result ((r w : ℕ) → get same_pair listed.new (r, w)
-        ≡ option_or (get same_pair listed.old (r, w)) (if nat_eq read r && list_any (λ v. nat_eq v w) writes.now then Some cycles else None)) }
+        ≡ option_or (get same_pair listed.old (r, w))
+        (if nat_eq read r && list_any (λ v. nat_eq v w) writes.now then Some cycles else None)) }
 {
     for write in writes {
         list_one(listed, (read, *write), cycles)?;
@@ -103,7 +107,8 @@ impl Advances {
     /// One more.
     fn add(&mut self, advance: &Advance) -> Result<(), NoMemory>
         requires { IsSmallAdvance advance.now }
-        ensures { OnOk result ((all : List AdvanceOf) → StandsFor self.old all → StandsFor self.new (all ++ advance.now ∷ [])) }
+        ensures { OnOk result ((all : List AdvanceOf) → StandsFor self.old all
+            → StandsFor self.new (all ++ advance.now ∷ [])) }
     {
         if advance.unsupported {
             return Ok(());
@@ -121,7 +126,8 @@ impl Advances {
 
     /// By how many cycles a read comes before the completion of a write.
     pub(crate) fn after(&self, read: usize, write: usize) -> i32
-        ensures { (all : List AdvanceOf) → StandsFor self.now all → result ≡ advance_after all read write }
+        ensures { (all : List AdvanceOf) → StandsFor self.now all
+            → result ≡ advance_after all read write }
     {
         if let Some(cycles) = self.listed.get(&(read, write)) {
             return *cycles;

@@ -3,33 +3,24 @@ ghost use Rattle.std.specs.Prelude.{◌≡◌, ◌<◌, ◌^◌, map, slice_get,
 ghost use Rattle.std.specs.Cmp.Lexicographic.{pointwise};
 ghost use Rattle.std.specs.List.{list_any};
 ghost use Rattle.std.specs.Option.{option_copied};
-ghost use Rattle.rv_isa.specs.Opcodes.{opcodes, facts_of};
-ghost use Rattle.sched_checks.specs.Checks.{same_op};
-ghost use Rattle.sched_validate.specs.Classes.{op_number, read_class, is_unsupported, answer_by, answer_of, rewrite_for, class_for, IsSmallRewrite, IsSmallDefaults};
+ghost use Rattle.rv_isa.specs.Opcodes.{opcodes, same_op};
+ghost use Rattle.sched_validate.specs.Classes.{read_class, is_unsupported, answer_by, answer_of, rewrite_for, class_for, IsSmallRewrite, IsSmallDefaults};
 ghost use Rattle.sched_validate.specs.Places.{IsPlace};
 
-use machine_model::{Binding, ClassAnswer};
+use machine_model::{Binding, ClassAnswer, NO_CLASS};
 use mca_fixed::{Items, NoMemory};
 use rv_isa::{Op, mnemonic};
-use sched_entries::{Defaults, Rewrite, Write, all_opcodes};
+use sched_resolve::{Defaults, Rewrite, Write, all_opcodes};
 use std::alloc::Global;
 
-/// The number of an opcode, in the order of the opcodes.
-pub(crate) fn number_of(op: Op) -> usize
-    ensures number { result ≡ op_number op }
-    ensures bound { result < 66 }
-{
-    op as usize
-}
-
-/// The class of a read; 65,535 for none.
+/// The class of a read; `NO_CLASS` for none.
 fn read_class(read: Option<usize>) -> u16
     requires { read_class read < 2 ^ 16 }
     ensures { result ≡ read_class read }
 {
     match read {
         Some(number) => number as u16,
-        None => 65_535,
+        None => NO_CLASS,
     }
 }
 
@@ -102,9 +93,10 @@ fn class_for(writes: &[&Write], rewrites: &[&Rewrite], defaults: &[Defaults], op
     requires rewrites { All (λ r. IsSmallRewrite r.now) rewrites.now }
     requires defaults { All IsSmallDefaults defaults.now }
     requires each { length defaults.now ≡ 66 }
-    ensures { result ≡ class_for (map (λ w. w.now) writes.now) (map (λ r. r.now) rewrites.now) defaults.now op }
+    ensures { result ≡ class_for (map (λ w. w.now) writes.now) (map (λ r. r.now) rewrites.now)
+        defaults.now op }
 {
-    let own = defaults[number_of(op)];
+    let own = defaults[op.number()];
     match rewrite_for(rewrites, op) {
         Some(rewrite) => answer_by(writes, rewrite.write, rewrite.rs1, rewrite.rs2),
         None => answer_by(writes, own.write, own.rs1, own.rs2),
@@ -121,7 +113,8 @@ pub(crate) fn all_classes(
     requires rewrites { All (λ r. IsSmallRewrite r.now) rewrites.now }
     requires defaults { All IsSmallDefaults defaults.now }
     requires each { length defaults.now ≡ 66 }
-    ensures { IfOk result (λ classes. classes ≡ map (class_for (map (λ w. w.now) writes.now) (map (λ r. r.now) rewrites.now) defaults.now) opcodes) }
+    ensures { IfOk result (λ classes. classes ≡ map (class_for (map (λ w. w.now) writes.now)
+        (map (λ r. r.now) rewrites.now) defaults.now) opcodes) }
 {
     let ops = all_opcodes();
     let mut classes = Vec::with_capacity(alloc, ops.len())?;

@@ -1,14 +1,13 @@
 //! The register files of a table's machine.
 ghost use Rattle.std.specs.Prelude.{◌≡◌, ◌<◌, ◌≤◌, ◌^◌, map, length, slice_get, All, IfOk};
 ghost use Rattle.std.specs.List.{range_with_len};
-ghost use Rattle.sched_checks.specs.Checks.{class_has};
 ghost use Rattle.sched_checks.specs.Resources.{count_of};
 ghost use Rattle.sched_validate.specs.Files.{cost_or_one, share_by, share_in, share_from, IsSmallFile};
 
-use crate::numbers::count;
+use crate::narrow::count;
 use machine_model::FileShare;
 use mca_fixed::{Items, NoMemory};
-use sched_entries::{File, Registers};
+use sched_resolve::{File, Registers};
 use std::alloc::Global;
 
 /// The sizes of the files, in physical registers; 0 for no bound.
@@ -21,16 +20,6 @@ pub(crate) fn sizes(alloc: Global, files: &[&File]) -> Result<Items<u32>, NoMemo
         sizes.push(count(file.size))?;
     }
     Ok(Items::from_vec(sizes))
-}
-
-fn class_has(register: u8, class: Registers) -> bool
-    ensures { result ≡ class_has register class }
-{
-    match class {
-        Registers::General => 1 <= register && register <= 31,
-        Registers::Compressed => 8 <= register && register <= 15,
-        Registers::Other => false,
-    }
 }
 
 /// The cost at a place of the costs; 1 where they have none there.
@@ -50,7 +39,7 @@ fn share_by(file: u8, register: u8, classes: &[Registers], costs: &[i64]) -> Opt
     ensures { result ≡ share_by file register classes.now costs.now }
 {
     for (place, class) in classes.iter().enumerate() {
-        if class_has(register, *class) {
+        if class.has(register as usize) {
             return Some(FileShare {
                 file,
                 cost: cost_at(costs, place),
@@ -96,7 +85,8 @@ fn share(files: &[&File], register: u8) -> Option<FileShare>
 pub(crate) fn shares(alloc: Global, files: &[&File]) -> Result<Items<Option<FileShare>>, NoMemory>
     requires files { All (λ f. IsSmallFile f.now) files.now }
     requires few { length files.now ≤ 8 }
-    ensures { IfOk result (λ shares. shares ≡ map (λ r. share_from 0 r (map (λ f. f.now) files.now)) (range_with_len 0 32)) }
+    ensures { IfOk result (λ shares. shares
+        ≡ map (λ r. share_from 0 r (map (λ f. f.now) files.now)) (range_with_len 0 32)) }
 {
     let mut shares = Vec::with_capacity(alloc, 32)?;
     for register in 0..32 {

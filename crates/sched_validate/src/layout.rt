@@ -9,7 +9,7 @@ ghost use Rattle.unit_sets.specs.Members.{in_words};
 
 use machine_model::UnitOwner;
 use mca_fixed::{Items, NoMemory};
-use sched_entries::{Makeup, Resource};
+use sched_resolve::{Makeup, Resource};
 use std::alloc::Global;
 use unit_sets::{UnitMask, UnitSet};
 
@@ -20,15 +20,12 @@ struct Span {
     count: usize,
 }
 
-/// How many units a resource has of its own. A number below 0 counts as 0.
+/// How many units a resource has of its own, where they are at most 256.
 fn own_units(resource: &Resource) -> usize
     requires { own_units resource.now.makeup ≤ 256 }
     ensures { result ≡ own_units resource.now.makeup }
 {
-    match &resource.makeup {
-        Makeup::Units(count) if *count > 0 => *count as usize,
-        _ => 0,
-    }
+    resource.makeup.own_units() as usize
 }
 
 /// The units that each resource has of its own.
@@ -49,7 +46,8 @@ fn spans(alloc: Global, resources: &[&Resource]) -> Result<Vec<Span>, NoMemory>
 /// Puts the units that a resource has of its own into a set.
 fn add_units(set: &mut UnitSet, span: &Span)
     requires { span.now.first + span.now.count ≤ 256 }
-    ensures { (v : ℕ) → in_words set.new.words v ≡ (is_within span.now v || in_words set.old.words v) }
+    ensures { (v : ℕ) → in_words set.new.words v
+        ≡ (is_within span.now v || in_words set.old.words v) }
 {
     for u in span.first..span.first + span.count {
         set.insert(u);
@@ -94,7 +92,9 @@ pub(crate) fn masks(alloc: Global, resources: &[&Resource]) -> Result<Items<Unit
     requires sum { sum_by (λ r. own_units r.makeup) (map (λ r. r.now) resources.now) ≤ 256 }
     requires members { MembersArePlaces (map (λ r. r.now) resources.now) }
     ensures count { IfOk result (λ sets. length sets ≡ length (map (λ r. r.now) resources.now)) }
-    ensures units { IfOk result (λ sets. (k v : ℕ) → k < length (map (λ r. r.now) resources.now) → in_words (slice_index_or sets k no_set).words v ≡ has_unit (map (λ r. r.now) resources.now) k v) }
+    ensures units { IfOk result (λ sets. (k v : ℕ) → k < length (map (λ r. r.now) resources.now)
+        → in_words (slice_index_or sets k no_set).words v
+        ≡ has_unit (map (λ r. r.now) resources.now) k v) }
 {
     let spans = spans(alloc, resources)?;
     let mut sets = Vec::with_capacity(alloc, resources.len())?;
@@ -133,7 +133,8 @@ pub(crate) fn owners(
     requires sum { sum_by (λ r. own_units r.makeup) (map (λ r. r.now) resources.now) ≤ 256 }
     requires few { length (map (λ r. r.now) resources.now) ≤ 64 }
     ensures count { IfOk result (λ owners. length owners ≡ 256) }
-    ensures owner { IfOk result (λ owners. (v : ℕ) → v < 256 → slice_index_or owners v None ≡ owner_of (map (λ r. r.now) resources.now) v) }
+    ensures owner { IfOk result (λ owners. (v : ℕ) → v < 256
+        → slice_index_or owners v None ≡ owner_of (map (λ r. r.now) resources.now) v) }
 {
     let mut owners = Vec::with_capacity(alloc, 256)?;
     for unit in 0..256 {

@@ -6,9 +6,9 @@ ghost use Rattle.sched_checks.specs.Resources.{count_of, resources_of};
 ghost use Rattle.sched_validate.specs.Machine.{or_own, model_of, reorder_of, retire_of, bound_by, limits_of};
 
 use crate::lists::{load_queue, model, retirement, store_queue};
-use crate::numbers::count;
+use crate::narrow::count;
 use machine_model::{Limits, Tuning};
-use sched_entries::{Entry, Queue, Resource};
+use sched_resolve::{Entry, Queue, Resource};
 
 /// A number of the command line, where it is not 0, else the machine's own.
 fn or_own(tuned: u32, own: u32) -> u32
@@ -20,7 +20,8 @@ fn or_own(tuned: u32, own: u32) -> u32
 /// The width of the first model.
 #[tactic(auto, using(crate::proofs::Tuned::first_or, crate::proofs::Tuned::first_none))]
 fn width(entries: &[Entry]) -> u32
-    ensures { count_of (model_of entries.now).width < 2 ^ 32 → result ≡ count_of (model_of entries.now).width }
+    ensures { count_of (model_of entries.now).width < 2 ^ 32
+        → result ≡ count_of (model_of entries.now).width }
 {
     match model(entries) {
         Some(model) => count(model.width),
@@ -31,7 +32,8 @@ fn width(entries: &[Entry]) -> u32
 /// The buffer of the first model.
 #[tactic(auto, using(crate::proofs::Tuned::first_or, crate::proofs::Tuned::first_none))]
 fn buffer(entries: &[Entry]) -> u32
-    ensures { count_of (model_of entries.now).buffer < 2 ^ 32 → result ≡ count_of (model_of entries.now).buffer }
+    ensures { count_of (model_of entries.now).buffer < 2 ^ 32
+        → result ≡ count_of (model_of entries.now).buffer }
 {
     match model(entries) {
         Some(model) => count(model.buffer),
@@ -41,7 +43,8 @@ fn buffer(entries: &[Entry]) -> u32
 
 /// The entries of the reorder buffer.
 fn reorder(entries: &[Entry]) -> u32
-    ensures { count_of (reorder_of entries.now) < 2 ^ 32 → result ≡ count_of (reorder_of entries.now) }
+    ensures { count_of (reorder_of entries.now) < 2 ^ 32
+        → result ≡ count_of (reorder_of entries.now) }
 {
     match retirement(entries) {
         Some(unit) if unit.entries >= 1 => count(unit.entries),
@@ -61,7 +64,8 @@ fn retire(entries: &[Entry]) -> u32
 
 /// The bound of a queue: the buffer of its resource.
 fn bound(resources: &[&Resource], queue: Option<&Queue>) -> u32
-    ensures { bound_by (map (λ r. r.now) resources.now) (option_copied queue.entry) < 2 ^ 32 → result ≡ bound_by (map (λ r. r.now) resources.now) (option_copied queue.entry) }
+    ensures { bound_by (map (λ r. r.now) resources.now) (option_copied queue.entry) < 2 ^ 32
+        → result ≡ bound_by (map (λ r. r.now) resources.now) (option_copied queue.entry) }
 {
     let Some(queue) = queue else {
         return 0;

@@ -6,8 +6,18 @@ ghost use Rattle.sched_validate.specs.Classes.{writes_of, advances_of};
 ghost use Rattle.sched_validate.specs.Lists.{models_of, files_of, retirements_of, load_queues_of, store_queues_of, rewrites_of};
 
 use mca_fixed::NoMemory;
-use sched_entries::{Advance, Entry, File, Model, Queue, Resource, Retirement, Rewrite, Write};
+use sched_resolve::{Advance, Entry, File, Model, Queue, Resource, Retirement, Rewrite, Write};
 use std::alloc::Global;
+
+/// The entries of a table by their kinds, each kind in order.
+#[derive(Clone, Copy)]
+pub struct Lists<'e> {
+    pub resources: &'e [&'e Resource],
+    pub files: &'e [&'e File],
+    pub writes: &'e [&'e Write],
+    pub rewrites: &'e [&'e Rewrite],
+    pub advances: &'e [&'e Advance],
+}
 
 /// The resources, by their numbers.
 pub(crate) fn resources(alloc: Global, entries: &[Entry]) -> Result<Vec<&Resource>, NoMemory>

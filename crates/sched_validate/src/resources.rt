@@ -3,7 +3,7 @@ ghost use Rattle.std.specs.Prelude.{◌≡◌, map, All, IfOk, pos, neg_ℤ, int
 ghost use Rattle.sched_validate.specs.Buffers.{IsBuffered};
 
 use mca_fixed::{Items, NoMemory, Text};
-use sched_entries::Resource;
+use sched_resolve::Resource;
 use std::alloc::Global;
 
 /// The buffer of a resource.

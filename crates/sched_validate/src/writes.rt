@@ -4,10 +4,10 @@ ghost use Rattle.sched_checks.specs.Resources.{place_or_first, uses_by};
 ghost use Rattle.sched_validate.specs.Classes.{facts_of, hold_or_one, IsSmallWrite};
 
 use crate::binding::eight;
-use crate::numbers::{count, micro_ops};
+use crate::narrow::{count, micro_ops};
 use machine_model::{Use, WriteFacts};
 use mca_fixed::{Items, NoMemory};
-use sched_entries::Write;
+use sched_resolve::Write;
 use std::alloc::Global;
 
 /// The cycles for which the use at a place holds its unit; 1 where none are given.

@@ -1,0 +1,16 @@
+use Rattle.std.proofs.Common.{◌∙◌, ap, map}
+use Rattle.std.proofs.lemmas.List.{map_push}
+use Rattle.sched_validate.specs.Lists.{file_in}
+use Rattle.sched_resolve.specs.declared.entry.Entry.TheVariants as entry
+use Rattle.sched_validate.proofs.Found.{is_file_entry}
+use Rattle.sched_validate.proofs.Loops.{no_kind, found_more, found_same}
+use Rattle.sched_validate.proofs.lists.files.Goals.{in-File+in_ok-push, in_default}
+use Rattle.sched_validate.proofs.lists.files.Goals as goal
+
+pub loop-entry-preserved : goal.loop-entry-preserved
+loop-entry-preserved c = elim c.match-entry.branch [
+  | in-File+in_ok-push w ↦ found_more file_in c.args.entries.now c.loop-entry.entry-index c.entry-item.result c.loop-entry.found.items c.match-entry.found.items w.in-File.one
+      c.loop-entry-test.true c.entry-item.is (ap file_in w.in-File.is) (ap (λ v. map (λ r. r.now) v.items) w.found-is ∙ ap (map (λ r. r.now)) w.in_ok-push.ensures.items ∙ map_push (λ r. r.now) c.loop-entry.found.items _) c.loop-entry.invariant
+  | in_default w ↦ found_same file_in c.args.entries.now c.loop-entry.entry-index c.entry-item.result c.loop-entry.found.items c.match-entry.found.items
+      c.loop-entry-test.true c.entry-item.is (no_kind file_in entry.File is_file_entry c.entry-item.result w.in_default.not-File) (ap (λ v. v.items) w.found-is) c.loop-entry.invariant
+]
