@@ -1,0 +1,4 @@
+pub mod Waiting
+pub mod Queues
+pub mod Flight
+pub mod Lanes

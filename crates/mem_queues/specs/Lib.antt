@@ -1,0 +1,4 @@
+pub mod Order
+pub mod Queues
+pub mod Flight
+pub mod Firsts
