@@ -1,0 +1,14 @@
+pub mod Step
+pub mod State
+pub mod Turn
+pub mod Reading
+pub mod End
+pub mod Budget
+pub mod Taken
+pub mod Windows
+pub mod Flow
+pub mod Writes
+pub mod Ties
+pub mod PartRows
+pub mod TakenRows
+pub mod InTurn

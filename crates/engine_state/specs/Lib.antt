@@ -1,0 +1,5 @@
+pub mod State
+pub mod Flight
+pub mod Writes
+pub mod Parts
+pub mod InTurn

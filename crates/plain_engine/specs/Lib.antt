@@ -1,0 +1,4 @@
+pub mod Ranges
+pub mod Others
+pub mod Flight
+pub mod Links
