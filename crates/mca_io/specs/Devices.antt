@@ -1,4 +1,4 @@
--- Models what every device tells: its count of faults, and for a shelf the content of each name.
+-- Models what every device tells: its count of faults, for a shelf the content of each name, and for a sink its bytes.
 use Rattle.std.specs.Prelude.{◌≡◌, ℕ, ◌≤◌, List, ⊤, None, Some, OnErr}
 use Rattle.std.specs.declared.option.Option.{Option}
 use Rattle.std.specs.declared.result.Result.{Result}
@@ -12,6 +12,11 @@ Rose before now = one_more before ≤ now
 pub record HasCause {T E : Type 0} (before now : ℕ) (result : Result T E) : Type 0 where
   pub later : before ≤ now
   pub failed : OnErr result (Rose before now)
+
+-- what is seen of a sink: the bytes that it got, where it tells them, and its count of faults
+pub record Seen : Type 0 where
+  pub contents : Option (List ℕ)
+  pub faults : ℕ
 
 -- what a shelf tells of a name: nothing; that no file has it; the content of its file
 abbrev pub Told : Type 0

@@ -77,16 +77,14 @@ pub struct StdSink<W: Write + Drop> {
 impl<W: Write + Drop> StdSink<W> {
     /// A sink over a writer, with no fault counted. Takes no memory.
     pub fn make(inner: W) -> StdSink<W>
-        ensures { ⟦<StdSink<W> as Sink>⟧.faults result ≡ 0 }
+        ensures { (⟦<StdSink<W> as Sink>⟧.told result).faults ≡ 0 }
     {
         StdSink { inner, faults: 0 }
     }
 }
 
 impl<W: Write + Drop> Sink for StdSink<W> {
-    ghost contents = { λ s. None };
-
-    ghost faults = { λ s. s.faults };
+    ghost told = { λ s. record { contents = None; faults = s.faults } };
 
     fn write(&mut self, bytes: &[u8]) -> Result<usize, Failed> {
         match self.inner.write(bytes) {

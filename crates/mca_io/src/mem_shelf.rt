@@ -142,6 +142,7 @@ impl Shelf for MemShelf {
         ensures err_chosen { OnErr result (is_some self.new.rest ≡ is_some self.old.rest) }
         ensures err_rest { OnErr result (self.new.rest ≡ self.old.rest) }
         ensures later { (n : List ℕ) → self.old.faults ≤ self.new.faults }
+        ensures still { OnOk result ((n : List ℕ) → self.new.faults ≡ self.old.faults) }
         ensures cause { HasCause self.old.faults self.new.faults result }
         ensures answer { is_err result ≡ choose_fails self.old name.now }
         ensures after { self.new ≡ after_choose self.old name.now }
@@ -174,6 +175,7 @@ impl Shelf for MemShelf {
         ensures bound { IfOk result (λ n. n ≤ length buf.new) }
         ensures bytes { ReadConsumes self.old.rest self.new.rest result buf.new }
         ensures err { OnErr result (self.new.rest ≡ self.old.rest) }
+        ensures still { OnOk result ((n : List ℕ) → self.new.faults ≡ self.old.faults) }
         ensures cause { (n : List ℕ) → HasCause self.old.faults self.new.faults result }
         ensures answer { result ≡ (if call_fails self.old then Err record {} else Ok (given self.old (length buf.old))) }
         ensures after { self.new ≡ after_read self.old (length buf.old) }

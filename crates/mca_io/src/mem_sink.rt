@@ -80,9 +80,7 @@ fn refuses(failing: &[u64], call: u64, room: usize, len: usize) -> bool
 }
 
 impl Sink for MemSink {
-    ghost contents = { λ s. Some s.written };
-
-    ghost faults = { λ s. s.faults };
+    ghost told = { λ s. record { contents = Some s.written; faults = s.faults } };
 
     /// Takes the least of `take`, the piece's length and the room that is left. Fails exactly where
     /// its number is listed or the sink is full.

@@ -82,6 +82,7 @@ fn read_piece<F: Shelf>(
     ensures told { (n : List ℕ) → F.told shelf.new n ≡ F.told shelf.old n }
     ensures chosen { F.chosen shelf.new ≡ true }
     ensures later { (n : List ℕ) → F.faults shelf.old n ≤ F.faults shelf.new n }
+    ensures still { OnOk result ((n : List ℕ) → F.faults shelf.new n ≡ F.faults shelf.old n) }
     ensures failed { result ≡ Err ReadFault.Failed → (n : List ℕ) → Rose (F.faults shelf.old n) (F.faults shelf.new n) }
     ensures not_long { result ≡ Err ReadFault.TooLong → ⊥ }
     ensures piece { IfOk result (λ end. (read : List ℕ) × (length read ≤ most) × (bytes.new.items ≡ bytes.old.items ++ read) × Consumes (F.rest shelf.old) (F.rest shelf.new) read × (end ≡ true → IsAtEnd (F.rest shelf.new)) × ((end ≡ true → ⊥) → 0 < length read)) }
@@ -107,8 +108,12 @@ pub fn read_named<F: Shelf>(
     ensures told { (n : List ℕ) → F.told shelf.new n ≡ F.told shelf.old n }
     ensures later { (n : List ℕ) → F.faults shelf.old n ≤ F.faults shelf.new n }
     ensures failed { result ≡ Err ReadFault.Failed → Rose (F.faults shelf.old name.now) (F.faults shelf.new name.now) }
-    ensures too_long { result ≡ Err ReadFault.TooLong → IfContent (F.told shelf.old name.now) (λ content. limit < length content) }
-    ensures stops { result ≡ Err ReadFault.TooLong → IfContent (F.told shelf.old name.now) (λ content. F.rest shelf.new ≡ Some (drop (limit + 1) content)) }
+    ensures no_fault { OnOk result ((n : List ℕ) → F.faults shelf.new n ≡ F.faults shelf.old n) }
+    ensures long_no_fault { result ≡ Err ReadFault.TooLong → (n : List ℕ) → F.faults shelf.new n ≡ F.faults shelf.old n }
+    ensures too_long { result ≡ Err ReadFault.TooLong →
+        IfContent (F.told shelf.old name.now) (λ content. limit < length content) }
+    ensures stops { result ≡ Err ReadFault.TooLong →
+        IfContent (F.told shelf.old name.now) (λ content. F.rest shelf.new ≡ Some (drop (limit + 1) content)) }
 {
     shelf.choose(name)?;
     let mut piece = buffer(alloc)?;

@@ -17,7 +17,8 @@ pub trait Shelf {
     /// What is left to read of the chosen file, where the shelf tells it.
     ghost rest: { Self → Option (List ℕ) };
 
-    /// For each name the count of faults. It never falls, and stands still at 2^64 - 1.
+    /// For each name the count of faults. It never falls, stands still at 2^64 - 1, and is left alone by a call that
+    /// does not fail.
     ghost faults: { Self → List ℕ → ℕ };
 
     /// Chooses the file of this name; its whole content is then left to read. Where there is no such
@@ -29,6 +30,7 @@ pub trait Shelf {
         ensures err_chosen { OnErr result (chosen self.new ≡ chosen self.old) }
         ensures err_rest { OnErr result (rest self.new ≡ rest self.old) }
         ensures later { (n : List ℕ) → faults self.old n ≤ faults self.new n }
+        ensures still { OnOk result ((n : List ℕ) → faults self.new n ≡ faults self.old n) }
         ensures cause { HasCause (faults self.old name.now) (faults self.new name.now) result };
 
     /// Takes the next bytes of the chosen file, puts them at the start of the buffer and answers how
@@ -42,5 +44,6 @@ pub trait Shelf {
         ensures bound { IfOk result (λ n. n ≤ length buf.new) }
         ensures bytes { ReadConsumes (rest self.old) (rest self.new) result buf.new }
         ensures err { OnErr result (rest self.new ≡ rest self.old) }
+        ensures still { OnOk result ((n : List ℕ) → faults self.new n ≡ faults self.old n) }
         ensures cause { (n : List ℕ) → HasCause (faults self.old n) (faults self.new n) result };
 }

@@ -9,6 +9,7 @@ invariant-loop-ended g l = record {
   chosen : g.F.Shelf.chosen l.shelf ≡ true;
   told : (n : List ℕ) → g.F.Shelf.told l.shelf n ≡ g.F.Shelf.told l.fn.shelf n;
   later : (n : List ℕ) → g.F.Shelf.faults l.fn.shelf n ≤ g.F.Shelf.faults l.shelf n;
+  still : (n : List ℕ) → g.F.Shelf.faults l.shelf n ≡ g.F.Shelf.faults l.fn.shelf n;
   reads : Reads (g.F.Shelf.told l.fn.shelf l.name) (g.F.Shelf.rest l.shelf) l.bytes.items;
   ended : l.ended ≡ true → IsAtEnd (g.F.Shelf.rest l.shelf);
 }

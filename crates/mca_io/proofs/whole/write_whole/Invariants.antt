@@ -5,8 +5,8 @@ use Rattle.mca_io.proofs.whole.write_whole.Given as goal
 abbrev pub invariant-loop-at : goal.invariant-loop-at
 invariant-loop-at g l = record {
   within : l.at ≤ length l.bytes;
-  front : Appends (g.S.Sink.contents l.fn.sink) (g.S.Sink.contents l.sink) (take l.at l.bytes);
-  later : g.S.Sink.faults l.fn.sink ≤ g.S.Sink.faults l.sink;
+  front : Appends (g.S.Sink.told l.fn.sink).contents (g.S.Sink.told l.sink).contents (take l.at l.bytes);
+  later : (g.S.Sink.told l.fn.sink).faults ≤ (g.S.Sink.told l.sink).faults;
 }
 
 abbrev pub decreases-loop-at : goal.decreases-loop-at
