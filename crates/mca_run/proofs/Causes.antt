@@ -4,6 +4,7 @@ use Rattle.std.specs.declared.option.Option.{Option}
 use Rattle.std.specs.declared.result.Result.{Result}
 use Rattle.cycle_rules.specs.declared.bound.Bound.{Bound}
 use Rattle.machine_model.specs.Meaning.{MachineMeaning}
+use Rattle.mca_fixed.specs.declared.limits.TheConstants.{MOST_TEXT_BYTES}
 use Rattle.mca_io.specs.Devices.{Told, IfContent}
 use Rattle.mca_words.specs.Answer.{answer_of}
 use Rattle.mca_words.specs.declared.fault.WordFault.{WordFault}
@@ -16,7 +17,7 @@ use Rattle.rv_asm.proofs.Answer.{one_items, one_fault, not_both as asm_not_both}
 use Rattle.rv_isa.specs.declared.instr.Instr.{Instr}
 use Rattle.sched_checks.specs.Illness.{illness_of}
 use Rattle.sched_checks.specs.declared.illness.TableIllness.{TableIllness}
-use Rattle.sched_entries.specs.Entries.{entries_of, all_defaults}
+use Rattle.sched_resolve.specs.Entries.{entries_of, all_defaults}
 use Rattle.sched_records.specs.Table.{HasRecords, HasFault}
 use Rattle.sched_records.specs.declared.records.Record.{Record}
 use Rattle.sched_records.specs.declared.refusal.TableRefusal.{TableRefusal}
@@ -25,7 +26,8 @@ use Rattle.sched_validate.specs.Machine.{machine_of}
 use Rattle.mca_run.specs.Asked.{IsWordFault, own as own_words, unbuilt, IsAsked, iterations_of}
 use Rattle.mca_run.specs.Items.{items_fault, code_of}
 use Rattle.mca_run.specs.Machines.{fixed_of, built_in_meaning}
-use Rattle.mca_run.specs.Refusal.{Contents, Tells, IsTextFault, own, of_items, IsInput, IsTable, IsAsmRefusal, asm_long, asm_fault, IsTableRefusal, table_long, table_fault, IsMachine, built_in, of_table, IsTaken, IsCodeRefusal, IsRunRefusal, by_table, by_illness, by_code, IsRefusal, by_words, by_assembly, by_run, most_bytes}
+use Rattle.mca_run.specs.Refusal.{Contents, IsTextFault, own, of_items, IsInput, IsTable, IsAsmRefusal, asm_long, asm_fault, IsTableRefusal, table_long, table_fault, IsMachine, built_in, of_table, IsTaken, IsCodeRefusal, IsRunRefusal, by_table, by_illness, by_code, IsRefusal, by_words, by_assembly, by_run}
+use Rattle.mca_run.specs.Steps.{TellsName}
 use Rattle.mca_run.specs.Report.{IsCodeReport, IsMachineReport, IsRunReport, IsReport}
 use Rattle.mca_run.proofs.OneMachine.{built_in_tuned, table_tuned, code_refusal_same, code_refusal_taken, taken_same}
 use Rattle.mca_run.proofs.OneReport.{code_report_same}
@@ -35,8 +37,8 @@ use Rattle.mca_run.specs.declared.status.Status.{Status}
 use Rattle.mca_run.specs.declared.status.Status.TheVariants.{Words, Assembly, Table, Machine}
 
 -- a content that has P is there
-pub content_there : (told : List ℕ → Told) (contents : Contents) (name : List ℕ) (P : List ℕ → Type 0) → Tells told contents → IfContent (told name) P → (text : List ℕ) × (contents name ≡ Some text) × P text
-content_there told contents name P tells h = go (contents name) (subst (λ t. IfContent t P) (tells name) h)
+pub content_there : (told : List ℕ → Told) (contents : Contents) (name : List ℕ) (P : List ℕ → Type 0) → TellsName told contents name → IfContent (told name) P → (text : List ℕ) × (contents name ≡ Some text) × P text
+content_there told contents name P tells h = go (contents name) (subst (λ t. IfContent t P) tells h)
   where
     go : (o : Option (List ℕ)) → IfContent (Some o) P → (text : List ℕ) × (o ≡ Some text) × P text
     go None bad = absurd bad
@@ -52,7 +54,7 @@ some_same x y e = cc
 text_same : (o : Option (List ℕ)) (s t : List ℕ) → o ≡ Some s → o ≡ Some t → s ≡ t
 text_same o s t p q = some_same s t (sym p ∙ q)
 
-short_or_long : (o : Option (List ℕ)) (s t : List ℕ) → o ≡ Some s → o ≡ Some t → length s ≤ most_bytes → most_bytes < length t → ⊥
+short_or_long : (o : Option (List ℕ)) (s t : List ℕ) → o ≡ Some s → o ≡ Some t → length s ≤ MOST_TEXT_BYTES → MOST_TEXT_BYTES < length t → ⊥
 short_or_long o s t p q short long = omega (arith, ap length (text_same o s t p q), short, long)
 
 -- Words
@@ -74,7 +76,7 @@ word_fault_asked words f o (unbuilt a p u e) q =
     let same : a ≡ o = cc in
     true_not_false (is_unbuilt o) (ap is_unbuilt (sym same) ∙ u) q.built
 
-word_fault_same : (words : List (List ℕ)) (f g : WordFault) → IsWordFault words f → IsWordFault words g → f ≡ g
+pub word_fault_same : (words : List (List ℕ)) (f g : WordFault) → IsWordFault words f → IsWordFault words g → f ≡ g
 word_fault_same words f g (own_words p) (own_words q) = let both : ◌≡◌ {A = Result Options WordFault} (Err f) (Err g) = sym p ∙ q in cc
 word_fault_same words f g (own_words p) (unbuilt o q u e) = absurd (fault_no_options words f o p q)
 word_fault_same words f g (unbuilt o p u e) (own_words q) = absurd (fault_no_options words g o q p)

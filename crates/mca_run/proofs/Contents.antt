@@ -1,79 +1,142 @@
--- What is read of the two files, in the words of their contents.
-use Rattle.std.proofs.Common.{◌≡◌, ℕ, ◌<◌, ◌≤◌, List, length, Some, Ok, Err, sym, ◌∙◌, ap, refl}
+-- What stands in the contents of a shelf, and what a refused text refuses.
+use Rattle.std.proofs.Common.{◌≡◌, ℕ, ◌≤◌, ◌<◌, List, length, Some, None, Ok, Err, ◌∙◌, ap, sym, refl, subst}
 use Rattle.std.specs.Prelude.{IfOk, IfErr}
 use Rattle.std.specs.declared.result.Result.{Result}
+use Rattle.rv_asm.specs.Program.{IsProgram}
+use Rattle.rv_asm.specs.declared.item.AsmText.{AsmText}
+use Rattle.sched_records.specs.Table.{HasRecords}
+use Rattle.sched_records.specs.declared.records.Record.{Record}
+use Rattle.mca_run.specs.Items.{items_fault}
+use Rattle.mca_fixed.specs.declared.limits.TheConstants.{MOST_TEXT_BYTES}
 use Rattle.mca_io.specs.Devices.{Told, IfContent}
 use Rattle.mca_words.specs.declared.options.Options.{Options}
-use Rattle.rv_asm.specs.declared.item.AsmText.{AsmText}
-use Rattle.sched_records.specs.declared.records.Record.{Record}
-use Rattle.mca_run.specs.Refusal.{Contents, Tells, IsInput, IsAsmRefusal, asm_long, asm_fault, IsTableRefusal, table_long, table_fault, most_bytes}
-use Rattle.mca_run.specs.Steps.{IsParsed, IsTabled, MayRefuseInput, MayRefuseTable, OfFiles}
+use Rattle.mca_run.specs.Refusal.{Contents, IsInput, IsTable, IsAsmRefusal, asm_long, asm_fault, IsTableRefusal, table_long, table_fault, IfRefused}
+use Rattle.mca_run.specs.Steps.{TellsName, IsUnread, MayRefuseText, MayRefuseRecordsOf, IsOfFiles}
+use Rattle.mca_run.specs.declared.status.LimitKind.{LimitKind}
+use Rattle.mca_run.specs.declared.status.LimitKind.TheVariants.{AssemblyBytes, TableBytes}
 use Rattle.mca_run.specs.declared.status.Status.{Status}
 use Rattle.mca_run.specs.declared.status.Status.TheVariants.{Done, Words, Assembly, Table, Machine, Limit, ReadFault, WriteFault, Memory}
-use Rattle.mca_run.specs.declared.status.LimitKind.TheVariants.{AssemblyBytes, TableBytes}
 use Rattle.mca_run.proofs.Causes.{content_there}
 
-pub long_assembly : (told : List ℕ → Told) (o : Options) (contents : Contents) → Tells told contents → IfContent (told o.input) (λ content. most_bytes < length content) → IsAsmRefusal contents o (Limit AssemblyBytes 8388609)
-long_assembly told o contents tells h = let there = content_there told contents o.input (λ content. most_bytes < length content) tells h in asm_long there.0 there.1 there.2 refl
-
-pub long_table : (told : List ℕ → Told) (o : Options) (contents : Contents) → Tells told contents → IfContent (told o.table) (λ content. most_bytes < length content) → IsTableRefusal contents o (Limit TableBytes 8388609)
-long_table told o contents tells h = let there = content_there told contents o.table (λ content. most_bytes < length content) tells h in table_long there.0 there.1 there.2 refl
-
 -- a text that is the content of the name
-pub is_there : (told : List ℕ → Told) (contents : Contents) (name text : List ℕ) → Tells told contents → IfContent (told name) (λ content. text ≡ content) → contents name ≡ Some text
+pub is_there : (told : List ℕ → Told) (contents : Contents) (name text : List ℕ) → TellsName told contents name → IfContent (told name) (λ content. text ≡ content) → contents name ≡ Some text
 is_there told contents name text tells h = let there = content_there told contents name (λ content. text ≡ content) tells h in there.1 ∙ ap Some (sym there.2)
 
-pub parsed_ok : (told : List ℕ → Told) (o : Options) (text : List ℕ) (r : Result AsmText Status) → length text ≤ most_bytes → IfContent (told o.input) (λ content. text ≡ content) → IsParsed text r
-    → IfOk r (λ asm. (contents : Contents) → Tells told contents → IsInput contents o asm.items)
-parsed_ok told o text (Ok asm) short h parsed = λ contents tells. record { text = text; there = is_there told contents o.input text tells h; short = short; names = asm.names; program = parsed.0; lawful = parsed.1 }
-parsed_ok told o text (Err s) short h parsed = tt
+-- A file that was not read
 
-pub parsed_err : (told : List ℕ → Told) (o : Options) (text : List ℕ) (r : Result AsmText Status) → length text ≤ most_bytes → IfContent (told o.input) (λ content. text ≡ content) → IsParsed text r
-    → IfErr r (λ s. (contents : Contents) → Tells told contents → MayRefuseInput contents o s)
-parsed_err told o text (Ok asm) short h parsed = tt
-parsed_err told o text (Err (Assembly refusal)) short h parsed = λ contents tells. asm_fault text refusal (is_there told contents o.input text tells h) short parsed refl
-parsed_err told o text (Err Memory) short h parsed = λ contents tells. tt
-parsed_err told o text (Err (Words fault)) short h parsed = absurd parsed
-parsed_err told o text (Err (Table refusal)) short h parsed = absurd parsed
-parsed_err told o text (Err (Machine refusal)) short h parsed = absurd parsed
-parsed_err told o text (Err (Limit kind n)) short h parsed = absurd parsed
-parsed_err told o text (Err Done) short h parsed = absurd parsed
-parsed_err told o text (Err ReadFault) short h parsed = absurd parsed
-parsed_err told o text (Err WriteFault) short h parsed = absurd parsed
+pub unread_assembly : (contents : Contents) (o : Options) (told : List ℕ → Told) (s : Status) → TellsName told contents o.input → IsUnread (told o.input) AssemblyBytes s → IfRefused (IsAsmRefusal contents o) s
+unread_assembly contents o told Done tells h = tt
+unread_assembly contents o told (Words fault) tells h = absurd h
+unread_assembly contents o told (Assembly refusal) tells h = absurd h
+unread_assembly contents o told (Table refusal) tells h = absurd h
+unread_assembly contents o told (Machine refusal) tells h = absurd h
+unread_assembly contents o told (Limit kind n) tells h = let there = content_there told contents o.input (λ content. MOST_TEXT_BYTES < length content) tells h.2 in asm_long there.0 there.1 there.2 (λ i. Limit (h.0 i) (h.1 i))
+unread_assembly contents o told ReadFault tells h = tt
+unread_assembly contents o told WriteFault tells h = tt
+unread_assembly contents o told Memory tells h = tt
 
-pub tabled_err : (told : List ℕ → Told) (o : Options) (text : List ℕ) (r : Result (List Record) Status) → length text ≤ most_bytes → IfContent (told o.table) (λ content. text ≡ content) → IsTabled text r
-    → IfErr r (λ s. (contents : Contents) → Tells told contents → MayRefuseTable contents o s)
-tabled_err told o text (Ok records) short h tabled = tt
-tabled_err told o text (Err (Table refusal)) short h tabled = λ contents tells. table_fault text refusal (is_there told contents o.table text tells h) short tabled refl
-tabled_err told o text (Err Memory) short h tabled = λ contents tells. tt
-tabled_err told o text (Err (Words fault)) short h tabled = absurd tabled
-tabled_err told o text (Err (Assembly refusal)) short h tabled = absurd tabled
-tabled_err told o text (Err (Machine refusal)) short h tabled = absurd tabled
-tabled_err told o text (Err (Limit kind n)) short h tabled = absurd tabled
-tabled_err told o text (Err Done) short h tabled = absurd tabled
-tabled_err told o text (Err ReadFault) short h tabled = absurd tabled
-tabled_err told o text (Err WriteFault) short h tabled = absurd tabled
+pub unread_table : (contents : Contents) (o : Options) (told : List ℕ → Told) (s : Status) → TellsName told contents o.table → IsUnread (told o.table) TableBytes s → IfRefused (IsTableRefusal contents o) s
+unread_table contents o told Done tells h = tt
+unread_table contents o told (Words fault) tells h = absurd h
+unread_table contents o told (Assembly refusal) tells h = absurd h
+unread_table contents o told (Table refusal) tells h = absurd h
+unread_table contents o told (Machine refusal) tells h = absurd h
+unread_table contents o told (Limit kind n) tells h = let there = content_there told contents o.table (λ content. MOST_TEXT_BYTES < length content) tells h.2 in table_long there.0 there.1 there.2 (λ i. Limit (h.0 i) (h.1 i))
+unread_table contents o told ReadFault tells h = tt
+unread_table contents o told WriteFault tells h = tt
+unread_table contents o told Memory tells h = tt
 
-pub parsed_of_files : (text : List ℕ) (r : Result AsmText Status) → IsParsed text r → IfErr r OfFiles
-parsed_of_files text (Ok asm) parsed = tt
-parsed_of_files text (Err (Assembly refusal)) parsed = tt
-parsed_of_files text (Err Memory) parsed = tt
-parsed_of_files text (Err (Words fault)) parsed = absurd parsed
-parsed_of_files text (Err (Table refusal)) parsed = absurd parsed
-parsed_of_files text (Err (Machine refusal)) parsed = absurd parsed
-parsed_of_files text (Err (Limit kind n)) parsed = absurd parsed
-parsed_of_files text (Err Done) parsed = absurd parsed
-parsed_of_files text (Err ReadFault) parsed = absurd parsed
-parsed_of_files text (Err WriteFault) parsed = absurd parsed
+pub unread_of_files : (told : Told) (limit : LimitKind) (s : Status) → IsUnread told limit s → IsOfFiles s
+unread_of_files told limit Done h = tt
+unread_of_files told limit (Words fault) h = h
+unread_of_files told limit (Assembly refusal) h = tt
+unread_of_files told limit (Table refusal) h = tt
+unread_of_files told limit (Machine refusal) h = tt
+unread_of_files told limit (Limit kind n) h = tt
+unread_of_files told limit ReadFault h = tt
+unread_of_files told limit WriteFault h = tt
+unread_of_files told limit Memory h = tt
 
-pub tabled_of_files : (text : List ℕ) (r : Result (List Record) Status) → IsTabled text r → IfErr r OfFiles
-tabled_of_files text (Ok records) tabled = tt
-tabled_of_files text (Err (Table refusal)) tabled = tt
-tabled_of_files text (Err Memory) tabled = tt
-tabled_of_files text (Err (Words fault)) tabled = absurd tabled
-tabled_of_files text (Err (Assembly refusal)) tabled = absurd tabled
-tabled_of_files text (Err (Machine refusal)) tabled = absurd tabled
-tabled_of_files text (Err (Limit kind n)) tabled = absurd tabled
-tabled_of_files text (Err Done) tabled = absurd tabled
-tabled_of_files text (Err ReadFault) tabled = absurd tabled
-tabled_of_files text (Err WriteFault) tabled = absurd tabled
+-- A text that was refused
+
+pub text_refused : (contents : Contents) (o : Options) (text : List ℕ) (s : Status) → contents o.input ≡ Some text → length text ≤ MOST_TEXT_BYTES → MayRefuseText text s → IfRefused (IsAsmRefusal contents o) s
+text_refused contents o text Done there short h = tt
+text_refused contents o text (Words fault) there short h = absurd h
+text_refused contents o text (Assembly refusal) there short h = asm_fault text refusal there short h refl
+text_refused contents o text (Table refusal) there short h = absurd h
+text_refused contents o text (Machine refusal) there short h = absurd h
+text_refused contents o text (Limit kind n) there short h = absurd h
+text_refused contents o text ReadFault there short h = tt
+text_refused contents o text WriteFault there short h = tt
+text_refused contents o text Memory there short h = tt
+
+pub text_of_files : (text : List ℕ) (s : Status) → MayRefuseText text s → IsOfFiles s
+text_of_files text Done h = tt
+text_of_files text (Words fault) h = h
+text_of_files text (Assembly refusal) h = tt
+text_of_files text (Table refusal) h = tt
+text_of_files text (Machine refusal) h = tt
+text_of_files text (Limit kind n) h = tt
+text_of_files text ReadFault h = tt
+text_of_files text WriteFault h = tt
+text_of_files text Memory h = tt
+
+pub table_refused : (contents : Contents) (o : Options) (text : List ℕ) (s : Status) → contents o.table ≡ Some text → length text ≤ MOST_TEXT_BYTES → MayRefuseRecordsOf text s → IfRefused (IsTableRefusal contents o) s
+table_refused contents o text Done there short h = tt
+table_refused contents o text (Words fault) there short h = absurd h
+table_refused contents o text (Assembly refusal) there short h = absurd h
+table_refused contents o text (Table refusal) there short h = table_fault text refusal there short h refl
+table_refused contents o text (Machine refusal) there short h = absurd h
+table_refused contents o text (Limit kind n) there short h = absurd h
+table_refused contents o text ReadFault there short h = tt
+table_refused contents o text WriteFault there short h = tt
+table_refused contents o text Memory there short h = tt
+
+pub table_of_files : (text : List ℕ) (s : Status) → MayRefuseRecordsOf text s → IsOfFiles s
+table_of_files text Done h = tt
+table_of_files text (Words fault) h = h
+table_of_files text (Assembly refusal) h = tt
+table_of_files text (Table refusal) h = tt
+table_of_files text (Machine refusal) h = tt
+table_of_files text (Limit kind n) h = tt
+table_of_files text ReadFault h = tt
+table_of_files text WriteFault h = tt
+table_of_files text Memory h = tt
+
+-- What a step makes of a text that was read
+
+pub program_ok : {E : Type 0} (told : List ℕ → Told) (o : Options) (text : List ℕ) (r : Result AsmText E) → length text ≤ MOST_TEXT_BYTES → IfContent (told o.input) (λ content. text ≡ content)
+    → IfOk r (λ asm. IsProgram text asm.items asm.names) → IfOk r (λ asm. items_fault asm.items ≡ None) → IfOk r (λ asm. (contents : Contents) → TellsName told contents o.input → IsInput contents o asm.items)
+program_ok told o text (Ok asm) short is program lawful = λ contents tells. record { text = text; there = is_there told contents o.input text tells is; short = short; names = asm.names; program = program; lawful = lawful }
+program_ok told o text (Err e) short is program lawful = tt
+
+pub program_err : {T E : Type 0} (status : E → Status) (told : List ℕ → Told) (o : Options) (text : List ℕ) (r : Result T E) → length text ≤ MOST_TEXT_BYTES → IfContent (told o.input) (λ content. text ≡ content)
+    → IfErr r (λ e. MayRefuseText text (status e)) → IfErr r (λ e. (contents : Contents) → TellsName told contents o.input → IfRefused (IsAsmRefusal contents o) (status e))
+program_err status told o text (Ok x) short is h = tt
+program_err status told o text (Err e) short is h = λ contents tells. text_refused contents o text (status e) (is_there told contents o.input text tells is) short h
+
+pub program_of_files : {T E : Type 0} (status : E → Status) (text : List ℕ) (r : Result T E) → IfErr r (λ e. MayRefuseText text (status e)) → IfErr r (λ e. IsOfFiles (status e))
+program_of_files status text (Ok x) h = tt
+program_of_files status text (Err e) h = text_of_files text (status e) h
+
+pub program_read : {T E : Type 0} (status : E → Status) (text : List ℕ) (P : Type 0) (r : Result T E) → IfErr r (λ e. MayRefuseText text (status e)) → IfErr r (λ e. status e ≡ ReadFault → P)
+program_read status text P (Ok x) h = tt
+program_read status text P (Err e) h = λ is. (let bad : MayRefuseText text ReadFault = subst (MayRefuseText text) is h in absurd bad)
+
+pub records_ok : {E : Type 0} (told : List ℕ → Told) (o : Options) (text : List ℕ) (r : Result (List Record) E) → length text ≤ MOST_TEXT_BYTES → IfContent (told o.table) (λ content. text ≡ content)
+    → IfOk r (HasRecords text) → IfOk r (λ records. (contents : Contents) → TellsName told contents o.table → IsTable contents o records)
+records_ok told o text (Ok records) short is has = λ contents tells. record { text = text; there = is_there told contents o.table text tells is; short = short; has = has }
+records_ok told o text (Err e) short is has = tt
+
+pub records_err : {T E : Type 0} (status : E → Status) (told : List ℕ → Told) (o : Options) (text : List ℕ) (r : Result T E) → length text ≤ MOST_TEXT_BYTES → IfContent (told o.table) (λ content. text ≡ content)
+    → IfErr r (λ e. MayRefuseRecordsOf text (status e)) → IfErr r (λ e. (contents : Contents) → TellsName told contents o.table → IfRefused (IsTableRefusal contents o) (status e))
+records_err status told o text (Ok x) short is h = tt
+records_err status told o text (Err e) short is h = λ contents tells. table_refused contents o text (status e) (is_there told contents o.table text tells is) short h
+
+pub records_of_files : {T E : Type 0} (status : E → Status) (text : List ℕ) (r : Result T E) → IfErr r (λ e. MayRefuseRecordsOf text (status e)) → IfErr r (λ e. IsOfFiles (status e))
+records_of_files status text (Ok x) h = tt
+records_of_files status text (Err e) h = table_of_files text (status e) h
+
+pub records_read : {T E : Type 0} (status : E → Status) (text : List ℕ) (P : Type 0) (r : Result T E) → IfErr r (λ e. MayRefuseRecordsOf text (status e)) → IfErr r (λ e. status e ≡ ReadFault → P)
+records_read status text P (Ok x) h = tt
+records_read status text P (Err e) h = λ is. (let bad : MayRefuseRecordsOf text ReadFault = subst (MayRefuseRecordsOf text) is h in absurd bad)

@@ -1,13 +1,11 @@
-pub mod Sums
-pub mod ClosedRun
-pub mod Plain
-pub mod Latest
-pub mod Kept
 pub mod OneReport
 pub mod OneMachine
-pub mod BoundBody
 pub mod Walk
+pub mod LawfulCode
+pub mod RunRows
 pub mod Causes
+pub mod Refused
+pub mod OfKinds
 pub mod Outcomes
 pub mod Contents
 pub mod MachineSteps

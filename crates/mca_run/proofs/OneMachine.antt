@@ -9,15 +9,14 @@ use Rattle.machine_model.specs.declared.tuning.Tuning.{Tuning}
 use Rattle.mca_words.specs.declared.options.Options.{Options}
 use Rattle.rv_isa.specs.declared.instr.Instr.{Instr}
 use Rattle.sched_checks.specs.Resources.{count_of, resources_of}
-use Rattle.sched_entries.specs.declared.entry.Defaults.{Defaults}
-use Rattle.sched_entries.specs.declared.entry.Entry.{Entry}
+use Rattle.sched_resolve.specs.declared.entry.Defaults.{Defaults}
+use Rattle.sched_resolve.specs.declared.entry.Entry.{Entry}
 use Rattle.sched_validate.specs.Bind.{bound_code}
 use Rattle.sched_validate.specs.Machine.{machine_of, or_own, model_of, bound_by}
 use Rattle.sched_validate.specs.Lists.{load_queues_of, store_queues_of}
 use Rattle.sched_validate.specs.declared.fault.BindFault.{BindFault}
 use Rattle.mca_run.specs.Machines.{IsTuned, built_in_meaning}
-use Rattle.mca_run.specs.Refusal.{IsTaken, IsCodeRefusal, by_opcode, by_not_yet, by_size, opcode_status}
-use Rattle.mca_run.specs.Simple.{not_yet}
+use Rattle.mca_run.specs.Refusal.{IsTaken, IsCodeRefusal, by_opcode, by_size, opcode_status}
 use Rattle.mca_run.specs.declared.machine.BuiltIn.{BuiltIn}
 use Rattle.mca_run.specs.declared.machine.BuiltIn.TheVariants.{Tiny, Dual, Quad}
 use Rattle.mca_run.specs.declared.status.Status.{Status}
@@ -76,30 +75,18 @@ err_same a b e = cc
 err_not_ok : (r : Result (List Bound) BindFault) (f : BindFault) (b : List Bound) → r ≡ Err f → r ≡ Ok b → ⊥
 err_not_ok r f b p q = let both : ◌≡◌ {A = Result (List Bound) BindFault} (Err f) (Ok b) = sym p ∙ q in cc
 
-true_not_false : (b : Bool) → b ≡ true → b ≡ false → ⊥
-true_not_false b p q = cc (p, q)
-
 body_same : (m : MachineMeaning) (code : List Instr) (a b : List Bound) → bound_code m code ≡ Ok a → bound_code m code ≡ Ok b → a ≡ b
 body_same m code a b p q = ok_same a b (sym p ∙ q)
 
-built_or_not : (m : MachineMeaning) (code : List Instr) (a b : List Bound) → bound_code m code ≡ Ok a → bound_code m code ≡ Ok b → not_yet m a ≡ true → not_yet m b ≡ false → ⊥
-built_or_not m code a b p q yet built = true_not_false (not_yet m b) (subst (λ c. not_yet m c ≡ true) (body_same m code a b p q) yet) built
-
 pub code_refusal_same : (m : MachineMeaning) (code : List Instr) (n : ℕ) (s t : Status) → IsCodeRefusal m code n s → IsCodeRefusal m code n t → s ≡ t
 code_refusal_same m code n s t (by_opcode f p e) (by_opcode g q d) = e ∙ ap opcode_status (err_same f g (sym p ∙ q)) ∙ sym d
-code_refusal_same m code n s t (by_opcode f p e) (by_not_yet b q y d) = absurd (err_not_ok (bound_code m code) f b p q)
-code_refusal_same m code n s t (by_opcode f p e) (by_size b q y more d) = absurd (err_not_ok (bound_code m code) f b p q)
-code_refusal_same m code n s t (by_not_yet b p y e) (by_opcode g q d) = absurd (err_not_ok (bound_code m code) g b q p)
-code_refusal_same m code n s t (by_not_yet b p y e) (by_not_yet c q z d) = e ∙ sym d
-code_refusal_same m code n s t (by_not_yet b p y e) (by_size c q z more d) = absurd (built_or_not m code b c p q y z)
-code_refusal_same m code n s t (by_size b p y more e) (by_opcode g q d) = absurd (err_not_ok (bound_code m code) g b q p)
-code_refusal_same m code n s t (by_size b p y more e) (by_not_yet c q z d) = absurd (built_or_not m code c b q p z y)
-code_refusal_same m code n s t (by_size b p y more e) (by_size c q z less d) = e ∙ sym d
+code_refusal_same m code n s t (by_opcode f p e) (by_size b q more d) = absurd (err_not_ok (bound_code m code) f b p q)
+code_refusal_same m code n s t (by_size b p more e) (by_opcode g q d) = absurd (err_not_ok (bound_code m code) g b q p)
+code_refusal_same m code n s t (by_size b p more e) (by_size c q less d) = e ∙ sym d
 
 pub code_refusal_taken : (m : MachineMeaning) (code : List Instr) (n : ℕ) (s : Status) (body : List Bound) → IsCodeRefusal m code n s → IsTaken m code n body → ⊥
 code_refusal_taken m code n s body (by_opcode f p e) k = err_not_ok (bound_code m code) f body p k.bound
-code_refusal_taken m code n s body (by_not_yet b p y e) k = built_or_not m code b body p k.bound y k.built
-code_refusal_taken m code n s body (by_size b p y more e) k = omega (arith, more, k.few)
+code_refusal_taken m code n s body (by_size b p more e) k = omega (arith, more, k.few)
 
 pub taken_same : (m : MachineMeaning) (code : List Instr) (n : ℕ) (a b : List Bound) → IsTaken m code n a → IsTaken m code n b → a ≡ b
 taken_same m code n a b p q = body_same m code a b p.bound q.bound

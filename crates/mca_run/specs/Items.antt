@@ -1,6 +1,9 @@
 -- The items of a program, so far one region: instructions, at most 4,096, and no marks.
-use Rattle.std.specs.Prelude.{ℕ, ◌-◌, List, [], ◌∷◌, Some, None, nat_eq, if◌then◌else◌}
+use Rattle.std.specs.Prelude.{◌≡◌, ℕ, ◌-◌, List, [], ◌∷◌, true, Some, None, nat_eq, if◌then◌else◌}
+use Rattle.std.specs.List.{All}
 use Rattle.std.specs.declared.option.Option.{Option}
+use Rattle.mca_fixed.specs.declared.limits.TheConstants.{MOST_REGION_INSTRUCTIONS}
+use Rattle.rv_isa.specs.Instruction.{is_lawful}
 use Rattle.rv_isa.specs.declared.instr.Instr.{Instr}
 use Rattle.rv_asm.specs.declared.item.Item.{Item}
 use Rattle.rv_asm.specs.declared.item.Item.TheVariants.{Code, Begin, End}
@@ -21,7 +24,11 @@ refused_from left (End line name ∷ items) = at_line line NotYet
 -- the first fault of the items
 abbrev pub items_fault : List Item → Option AsmRefusal
 items_fault [] = at_line 0 NoInstruction
-items_fault (item ∷ items) = refused_from 4096 (item ∷ items)
+items_fault (item ∷ items) = refused_from MOST_REGION_INSTRUCTIONS (item ∷ items)
+
+-- each of them is an instruction of the manual
+abbrev pub AreLawful : List Instr → Type 0
+AreLawful code = All (λ i. is_lawful i ≡ true) code
 
 -- the instructions among the items
 abbrev pub code_of : List Item → List Instr

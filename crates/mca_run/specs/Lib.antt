@@ -1,10 +1,9 @@
-pub mod Simple
-pub mod Engine
 pub mod Lines
 pub mod Items
 pub mod Asked
 pub mod Machines
 pub mod Refusal
-pub mod Steps
 pub mod Report
 pub mod Outcome
+pub mod Stop
+pub mod Steps

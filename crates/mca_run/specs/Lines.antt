@@ -37,7 +37,6 @@ op_kind_name op_kind.UnsupportedOp = codes "UnsupportedOp"
 abbrev pub machine_line : MachineRefusal → List ℕ
 machine_line (machine.Record number kind) = codes "mca: machine record " ++ decimal number ++ codes ": " ++ ill_name kind ++ codes "\n"
 machine_line (machine.Opcode op kind) = codes "mca: machine opcode " ++ (facts_of op).mnemonic ++ codes ": " ++ op_kind_name kind ++ codes "\n"
-machine_line machine.NotYet = codes "mca: machine: NotYet\n"
 
 abbrev pub line_of : Status → List ℕ
 line_of Done = []

@@ -1,11 +1,10 @@
 -- What a call of the tool leaves: the bytes on the report's sink and on the errors' sink, by its status.
 use Rattle.std.specs.Prelude.{◌≡◌, ◌≢◌, ℕ, ◌<◌, ◌⊎◌, ⊤, List, length, take, None}
 use Rattle.std.specs.declared.option.Option.{Option}
-use Rattle.std.specs.Io.KnownBytes.{Appends, Keeps}
+use Rattle.std.specs.Io.KnownBytes.{Appends, Keeps, IsAtEnd}
 use Rattle.cycle_rules.specs.declared.bound.Bound.{Bound}
 use Rattle.machine_model.specs.Meaning.{MachineMeaning}
-use Rattle.mca_io.specs.Devices.{Rose}
-use Rattle.mca_words.specs.declared.fault.WordFault.{WordFault}
+use Rattle.mca_io.specs.Devices.{Rose, Seen}
 use Rattle.mca_words.specs.declared.fault.WordKind.TheVariants as word
 use Rattle.mca_words.specs.declared.options.Options.{Options}
 use Rattle.rv_asm.specs.declared.fault.AsmKind.TheVariants as asm
@@ -22,68 +21,39 @@ use Rattle.mca_run.specs.declared.status.Status.{Status}
 use Rattle.mca_run.specs.declared.status.Status.TheVariants.{Done, Words, Assembly, Table, Machine, ReadFault, WriteFault, Memory}
 use Rattle.mca_run.specs.declared.status.MachineRefusal.TheVariants as machine
 
--- a sink before and after a call: its bytes, where it tells them, and its count of faults
-pub record Sunk : Type 0 where
-  pub before : Option (List ℕ)
-  pub after : Option (List ℕ)
-  pub faults_before : ℕ
-  pub faults_after : ℕ
+-- what is seen of a sink before a call, and after it
+abbrev pub Change : Type 0
+Change = Seen × Seen
 
-abbrev pub sunk : Option (List ℕ) → Option (List ℕ) → ℕ → ℕ → Sunk
-sunk before after faults_before faults_after = record { before = before; after = after; faults_before = faults_before; faults_after = faults_after }
+abbrev pub IsKept : Change → Type 0
+IsKept sink = Keeps sink.0.contents sink.1.contents
 
-abbrev pub IsKept : Sunk → Type 0
-IsKept s = Keeps s.before s.after
-
-abbrev pub Gets : Sunk → List ℕ → Type 0
-Gets s bytes = Appends s.before s.after bytes
+abbrev pub Gets : Change → List ℕ → Type 0
+Gets sink bytes = Appends sink.0.contents sink.1.contents bytes
 
 -- a proper front of the bytes came, and a fault was counted
-pub record GetsFront (s : Sunk) (bytes : List ℕ) : Type 0 where
+pub record GetsFront (sink : Change) (bytes : List ℕ) : Type 0 where
   pub count : ℕ
   pub proper : count < length bytes
-  pub front : Gets s (take count bytes)
-  pub rose : Rose s.faults_before s.faults_after
+  pub front : Gets sink (take count bytes)
+  pub rose : Rose sink.0.faults sink.1.faults
 
 -- the status is told: nothing of a report, and its one line on the errors' sink
-pub record IsTold (out err : Sunk) (status : Status) : Type 0 where
+pub record IsTold (out err : Change) (status : Status) : Type 0 where
   pub kept : IsKept out
   pub line : Gets err (line_of status)
 
 -- each status but those of the report is told
-abbrev pub TellsLine : Sunk → Sunk → Status → Type 0
+abbrev pub TellsLine : Change → Change → Status → Type 0
 TellsLine out err Done = ⊤
 TellsLine out err WriteFault = ⊤
 TellsLine out err status = IsTold out err status
 
--- the whole report came, and no error
-pub record IsReported (words : List (List ℕ)) (contents : Contents) (out err : Sunk) : Type 0 where
+-- the whole report came
+pub record IsReported (words : List (List ℕ)) (contents : Contents) (out : Change) : Type 0 where
   pub report : List ℕ
   pub is : IsReport words contents report
   pub bytes : Gets out report
-  pub no_error : IsKept err
-
--- the report's sink failed: a proper front of the report came, and the line of the write fault, whole unless the errors' sink failed too
-pub record ReportFailed (words : List (List ℕ)) (contents : Contents) (out err : Sunk) : Type 0 where
-  pub report : List ℕ
-  pub is : IsReport words contents report
-  pub front : GetsFront out report
-  pub line : Gets err (line_of WriteFault) ⊎ GetsFront err (line_of WriteFault)
-
--- a status that has a line may be the answer: a refusal that stands in the input, a read fault, or want of memory
-abbrev pub MayTell : List (List ℕ) → Contents → Status → Type 0
-MayTell words contents ReadFault = ⊤
-MayTell words contents Memory = ⊤
-MayTell words contents Done = ⊥
-MayTell words contents WriteFault = ⊥
-MayTell words contents status = IsRefusal words contents status
-
--- the errors' sink failed: of the line of such a status a proper front came
-pub record LineFailed (words : List (List ℕ)) (contents : Contents) (out err : Sunk) : Type 0 where
-  pub status : Status
-  pub may : MayTell words contents status
-  pub front : GetsFront err (line_of status)
-  pub kept : IsKept out
 
 -- a status has no kind that tells of want of memory, for which there is a status of its own
 abbrev pub HoldsNoMemory : Status → Type 0
@@ -101,23 +71,76 @@ IsFailure status = (status ≡ ReadFault) ⊎ ((status ≡ WriteFault) ⊎ (stat
 pub record NamedFault (words : List (List ℕ)) (before after : List ℕ → ℕ) : Type 0 where
   pub options : Options
   pub asked : IsAsked words options
-  pub rose : Rose (before options.input) (after options.input) ⊎ ((fixed_of options ≡ None) × Rose (before options.table) (after options.table))
+  pub rose : Rose (before options.input) (after options.input)
+      ⊎ ((fixed_of options ≡ None) × Rose (before options.table) (after options.table))
 
 -- and the table's count alone rose only where the assembly is right
 pub record NamedInOrder (words : List (List ℕ)) (contents : Contents) (before after : List ℕ → ℕ) : Type 0 where
   pub options : Options
   pub asked : IsAsked words options
-  pub rose : Rose (before options.input) (after options.input) ⊎ ((items : List Item) × IsInput contents options items × (fixed_of options ≡ None) × Rose (before options.table) (after options.table))
+  pub rose : Rose (before options.input) (after options.input)
+      ⊎ ((items : List Item) × IsInput contents options items × (fixed_of options ≡ None) × Rose (before options.table) (after options.table))
+
+-- a status that has a line may be the answer, by the words and by the counts of the shelf
+abbrev pub MayTell : List (List ℕ) → (List ℕ → ℕ) → (List ℕ → ℕ) → Status → Type 0
+MayTell words before after Done = ⊥
+MayTell words before after WriteFault = ⊥
+MayTell words before after (Words fault) = IsWordFault words fault
+MayTell words before after ReadFault = NamedFault words before after
+MayTell words before after status = HoldsNoMemory status
+
+-- .. and by the contents of the named files: a refusal stands in the input
+abbrev pub MayTellOf : List (List ℕ) → Contents → (List ℕ → ℕ) → (List ℕ → ℕ) → Status → Type 0
+MayTellOf words contents before after Done = ⊥
+MayTellOf words contents before after WriteFault = ⊥
+MayTellOf words contents before after ReadFault = NamedInOrder words contents before after
+MayTellOf words contents before after Memory = ⊤
+MayTellOf words contents before after status = IsRefusal words contents status
+
+-- the report's sink failed, after each file that is read was read to its end: a proper front of a report came, and the line of the write fault, whole unless the errors'
+-- sink failed too
+pub record ReportFailed (Is : List ℕ → Type 0) (rest : Option (List ℕ)) (out err : Change) : Type 0 where
+  pub report : List ℕ
+  pub is : Is report
+  pub read_to_end : IsAtEnd rest
+  pub front : GetsFront out report
+  pub line : Gets err (line_of WriteFault) ⊎ GetsFront err (line_of WriteFault)
+
+-- the errors' sink failed: of the line of a status that may be told a proper front came
+pub record LineFailed (May : Status → Type 0) (out err : Change) : Type 0 where
+  pub status : Status
+  pub may : May status
+  pub front : GetsFront err (line_of status)
+  pub kept : IsKept out
+
+-- what a write fault leaves, whatever the named files hold
+abbrev pub WriteFailed : List (List ℕ) → (List ℕ → ℕ) → (List ℕ → ℕ) → Option (List ℕ) → Change → Change → Type 0
+WriteFailed words before after rest out err = ReportFailed (λ report. ⊤) rest out err ⊎ LineFailed (MayTell words before after) out err
+
+-- .. and where they hold this
+abbrev pub WriteFailedOf : List (List ℕ) → Contents → (List ℕ → ℕ) → (List ℕ → ℕ) → Option (List ℕ) → Change → Change → Type 0
+WriteFailedOf words contents before after rest out err =
+    ReportFailed (IsReport words contents) rest out err ⊎ LineFailed (MayTellOf words contents before after) out err
 
 -- what writing the line of a status left: the line of that status, that of want of memory, or a front of one of them
-abbrev pub LineWritten : Sunk → Status → Status → Type 0
+abbrev pub LineWritten : Change → Status → Status → Type 0
 LineWritten err status result = ((result ≡ status) × Gets err (line_of status)) ⊎ (((result ≡ Memory) × Gets err (line_of Memory))
     ⊎ ((result ≡ WriteFault) × ((s : Status) × ((s ≡ status) ⊎ (s ≡ Memory)) × GetsFront err (line_of s))))
 
+-- words, contents and limits are right: the tool has a report
+pub record IsAccepted (words : List (List ℕ)) (contents : Contents) : Type 0 where
+  pub options : Options
+  pub asked : IsAsked words options
+  pub items : List Item
+  pub input : IsInput contents options items
+  pub machine : MachineMeaning
+  pub named : IsMachine contents options machine
+  pub body : List Bound
+  pub taken : IsTaken machine (code_of items) (iterations_of options) body
+
 -- nothing but a failure stands in for the answer that words and contents have
 pub record IsComplete (words : List (List ℕ)) (contents : Contents) (result : Status) : Type 0 where
-  pub refused : (s : Status) → IsRefusal words contents s → (result ≡ s) ⊎ IsFailure result
-  pub words_first : (fault : WordFault) → IsWordFault words fault → result ≡ ReadFault → ⊥
+  pub refused : (status : Status) → IsRefusal words contents status → (result ≡ status) ⊎ IsFailure result
   pub no_assembly : (o : Options) → IsAsked words o → contents o.input ≡ None → IsFailure result
   pub no_table : (o : Options) (items : List Item) → IsAsked words o → IsInput contents o items → fixed_of o ≡ None → contents o.table ≡ None → IsFailure result
-  pub accepted : (o : Options) (items : List Item) (m : MachineMeaning) (body : List Bound) → IsAsked words o → IsInput contents o items → IsMachine contents o m → IsTaken m (code_of items) (iterations_of o) body → (result ≡ Done) ⊎ IsFailure result
+  pub accepted : IsAccepted words contents → (result ≡ Done) ⊎ IsFailure result

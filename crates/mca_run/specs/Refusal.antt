@@ -1,9 +1,10 @@
 -- Why an input is refused: what stands in the words and in the contents of the two named files.
-use Rattle.std.specs.Prelude.{◌≡◌, ℕ, ◌+◌, ◌*◌, ◌<◌, ◌≤◌, List, length, true, false, Some, None, Ok, Err}
+use Rattle.std.specs.Prelude.{◌≡◌, ℕ, ◌+◌, ◌*◌, ◌<◌, ◌≤◌, ⊤, List, length, true, false, Some, None, Ok, Err}
 use Rattle.std.specs.declared.option.Option.{Option}
 use Rattle.cycle_rules.specs.declared.bound.Bound.{Bound}
 use Rattle.machine_model.specs.Meaning.{MachineMeaning}
 use Rattle.machine_model.specs.declared.tuning.Tuning.{Tuning}
+use Rattle.mca_fixed.specs.declared.limits.TheConstants.{MOST_TEXT_BYTES, MOST_ROWS}
 use Rattle.mca_io.specs.Devices.{Told}
 use Rattle.mca_words.specs.declared.fault.WordFault.{WordFault}
 use Rattle.mca_words.specs.declared.options.Options.{Options}
@@ -13,7 +14,7 @@ use Rattle.rv_asm.specs.declared.item.Item.{Item}
 use Rattle.rv_isa.specs.declared.instr.Instr.{Instr}
 use Rattle.sched_checks.specs.Illness.{illness_of}
 use Rattle.sched_checks.specs.declared.illness.TableIllness.{TableIllness}
-use Rattle.sched_entries.specs.Entries.{entries_of, all_defaults}
+use Rattle.sched_resolve.specs.Entries.{entries_of, all_defaults}
 use Rattle.sched_records.specs.Table.{HasRecords, HasFault}
 use Rattle.sched_records.specs.declared.records.Record.{Record}
 use Rattle.sched_records.specs.declared.refusal.TableRefusal.{TableRefusal}
@@ -24,10 +25,9 @@ use Rattle.sched_validate.specs.declared.fault.BindFault.TheVariants as bind_fau
 use Rattle.mca_run.specs.Asked.{IsAsked, IsWordFault, iterations_of}
 use Rattle.mca_run.specs.Items.{items_fault, code_of}
 use Rattle.mca_run.specs.Machines.{fixed_of, built_in_meaning, IsTuned}
-use Rattle.mca_run.specs.Simple.{not_yet}
 use Rattle.mca_run.specs.declared.machine.BuiltIn.{BuiltIn}
 use Rattle.mca_run.specs.declared.status.Status.{Status}
-use Rattle.mca_run.specs.declared.status.Status.TheVariants.{Words, Assembly, Table, Machine, Limit, Memory}
+use Rattle.mca_run.specs.declared.status.Status.TheVariants.{Done, Words, Assembly, Table, Machine, Limit, ReadFault, WriteFault, Memory}
 use Rattle.mca_run.specs.declared.status.LimitKind.TheVariants.{AssemblyBytes, TableBytes, RunSize}
 use Rattle.mca_run.specs.declared.status.MachineRefusal.TheVariants as machine
 use Rattle.mca_run.specs.declared.status.OpKind.TheVariants as op_kind
@@ -36,16 +36,18 @@ use Rattle.mca_run.specs.declared.status.OpKind.TheVariants as op_kind
 abbrev pub Contents : Type 0
 Contents = List ℕ → Option (List ℕ)
 
--- a shelf tells these contents
-abbrev pub Tells : (List ℕ → Told) → Contents → Type 0
-Tells told contents = (name : List ℕ) → told name ≡ Some (contents name)
+-- a shelf tells these contents of the files that the options name: of the assembly, and of the table where they name no built-in machine
+pub record TellsFiles (o : Options) (told : List ℕ → Told) (contents : Contents) : Type 0 where
+  pub input : told o.input ≡ Some (contents o.input)
+  pub table : fixed_of o ≡ None → told o.table ≡ Some (contents o.table)
 
--- the most bytes of a file, and the most rows of a run
-abbrev pub most_bytes : ℕ
-most_bytes = 8388608
+-- .. of the files that the words name
+abbrev pub Tells : List (List ℕ) → (List ℕ → Told) → Contents → Type 0
+Tells words told contents = (o : Options) → IsAsked words o → TellsFiles o told contents
 
-abbrev pub most_rows : ℕ
-most_rows = 1048576
+-- whatever the files hold that the words name, where the shelf tells it
+abbrev pub WhereTold : List (List ℕ) → (List ℕ → Told) → (Contents → Type 0) → Type 0
+WhereTold words told P = (contents : Contents) → Tells words told contents → P contents
 
 -- the first fault of an assembly text: its own, or that of the items of its program
 pub data IsTextFault (text : List ℕ) (refusal : AsmRefusal) : Type 0 where
@@ -56,7 +58,7 @@ pub data IsTextFault (text : List ℕ) (refusal : AsmRefusal) : Type 0 where
 pub record IsInput (contents : Contents) (o : Options) (items : List Item) : Type 0 where
   pub text : List ℕ
   pub there : contents o.input ≡ Some text
-  pub short : length text ≤ most_bytes
+  pub short : length text ≤ MOST_TEXT_BYTES
   pub names : List (List ℕ)
   pub program : IsProgram text items names
   pub lawful : items_fault items ≡ None
@@ -65,18 +67,18 @@ pub record IsInput (contents : Contents) (o : Options) (items : List Item) : Typ
 pub record IsTable (contents : Contents) (o : Options) (records : List Record) : Type 0 where
   pub text : List ℕ
   pub there : contents o.table ≡ Some text
-  pub short : length text ≤ most_bytes
+  pub short : length text ≤ MOST_TEXT_BYTES
   pub has : HasRecords text records
 
 -- the assembly is refused with this status
 pub data IsAsmRefusal (contents : Contents) (o : Options) (status : Status) : Type 0 where
-  asm_long : (text : List ℕ) → contents o.input ≡ Some text → most_bytes < length text → status ≡ Limit AssemblyBytes (most_bytes + 1) → IsAsmRefusal contents o status
-  asm_fault : (text : List ℕ) (refusal : AsmRefusal) → contents o.input ≡ Some text → length text ≤ most_bytes → IsTextFault text refusal → status ≡ Assembly refusal → IsAsmRefusal contents o status
+  asm_long : (text : List ℕ) → contents o.input ≡ Some text → MOST_TEXT_BYTES < length text → status ≡ Limit AssemblyBytes (MOST_TEXT_BYTES + 1) → IsAsmRefusal contents o status
+  asm_fault : (text : List ℕ) (refusal : AsmRefusal) → contents o.input ≡ Some text → length text ≤ MOST_TEXT_BYTES → IsTextFault text refusal → status ≡ Assembly refusal → IsAsmRefusal contents o status
 
 -- the table is refused with this status
 pub data IsTableRefusal (contents : Contents) (o : Options) (status : Status) : Type 0 where
-  table_long : (text : List ℕ) → contents o.table ≡ Some text → most_bytes < length text → status ≡ Limit TableBytes (most_bytes + 1) → IsTableRefusal contents o status
-  table_fault : (text : List ℕ) (refusal : TableRefusal) → contents o.table ≡ Some text → length text ≤ most_bytes → HasFault text refusal → status ≡ Table refusal → IsTableRefusal contents o status
+  table_long : (text : List ℕ) → contents o.table ≡ Some text → MOST_TEXT_BYTES < length text → status ≡ Limit TableBytes (MOST_TEXT_BYTES + 1) → IsTableRefusal contents o status
+  table_fault : (text : List ℕ) (refusal : TableRefusal) → contents o.table ≡ Some text → length text ≤ MOST_TEXT_BYTES → HasFault text refusal → status ≡ Table refusal → IsTableRefusal contents o status
 
 -- the machine that the options name: a built-in one, or that of a table without an illness
 pub data IsMachine (contents : Contents) (o : Options) (m : MachineMeaning) : Type 0 where
@@ -84,11 +86,10 @@ pub data IsMachine (contents : Contents) (o : Options) (m : MachineMeaning) : Ty
   of_table : (records : List Record) (t : Tuning) → fixed_of o ≡ None → IsTable contents o records → illness_of (entries_of records) ≡ None
       → IsTuned o t → m ≡ machine_of (entries_of records) (all_defaults records) t → IsMachine contents o m
 
--- a machine takes instructions, so often repeated: it has a class for each, the engine runs their body on it, and the rows are not too many
+-- a machine takes instructions, so often repeated: it has a class for each, and the rows are not too many
 pub record IsTaken (m : MachineMeaning) (code : List Instr) (iterations : ℕ) (body : List Bound) : Type 0 where
   pub bound : bound_code m code ≡ Ok body
-  pub built : not_yet m body ≡ false
-  pub few : iterations * length code ≤ most_rows
+  pub few : iterations * length code ≤ MOST_ROWS
 
 -- the status of an instruction that a machine does not run
 abbrev pub opcode_status : BindFault → Status
@@ -96,11 +97,10 @@ opcode_status (bind_fault.NoWriteRes op) = Machine (machine.Opcode op op_kind.No
 opcode_status (bind_fault.UnsupportedOp op) = Machine (machine.Opcode op op_kind.UnsupportedOp)
 opcode_status bind_fault.Memory = Memory
 
--- a machine refuses instructions, so often repeated, with this status: the first that has no class; then what is not run yet; then the size of the run
+-- a machine refuses instructions, so often repeated, with this status: the first that has no class; then the size of the run
 pub data IsCodeRefusal (m : MachineMeaning) (code : List Instr) (iterations : ℕ) (status : Status) : Type 0 where
   by_opcode : (fault : BindFault) → bound_code m code ≡ Err fault → status ≡ opcode_status fault → IsCodeRefusal m code iterations status
-  by_not_yet : (body : List Bound) → bound_code m code ≡ Ok body → not_yet m body ≡ true → status ≡ Machine machine.NotYet → IsCodeRefusal m code iterations status
-  by_size : (body : List Bound) → bound_code m code ≡ Ok body → not_yet m body ≡ false → most_rows < iterations * length code
+  by_size : (body : List Bound) → bound_code m code ≡ Ok body → MOST_ROWS < iterations * length code
       → status ≡ Limit RunSize (iterations * length code) → IsCodeRefusal m code iterations status
 
 -- the machine, or its run of the code, is refused with this status: the first step that refuses it, of the table's text, its validity, and what its machine or a built-in one takes
@@ -115,3 +115,11 @@ pub data IsRefusal (words : List (List ℕ)) (contents : Contents) (status : Sta
   by_words : (fault : WordFault) → IsWordFault words fault → status ≡ Words fault → IsRefusal words contents status
   by_assembly : (o : Options) → IsAsked words o → IsAsmRefusal contents o status → IsRefusal words contents status
   by_run : (o : Options) (items : List Item) → IsAsked words o → IsInput contents o items → IsRunRefusal contents o (code_of items) status → IsRefusal words contents status
+
+-- where a status is a refusal of the input, P is true of it
+abbrev pub IfRefused : (Status → Type 0) → Status → Type 0
+IfRefused P Done = ⊤
+IfRefused P ReadFault = ⊤
+IfRefused P WriteFault = ⊤
+IfRefused P Memory = ⊤
+IfRefused P status = P status

@@ -1,57 +1,83 @@
--- What each step of the top call answers, by the statuses that it may refuse with.
-use Rattle.std.specs.Prelude.{◌≡◌, ℕ, List, ⊤, None, Some}
-use Rattle.std.specs.declared.result.Result.{Result}
-use Rattle.std.specs.Prelude.{Ok, Err}
+-- What each step of the tool answers, by the statuses with which it may stop; words of private contracts alone.
+use Rattle.std.specs.Prelude.{◌≡◌, ℕ, ◌+◌, ◌<◌, ◌⊎◌, List, length, ⊤, None, Some}
 use Rattle.machine_model.specs.Meaning.{MachineMeaning}
+use Rattle.mca_fixed.specs.declared.limits.TheConstants.{MOST_TEXT_BYTES}
+use Rattle.mca_io.specs.Devices.{Told, IfContent}
+use Rattle.mca_words.specs.declared.fault.WordFault.{WordFault}
+use Rattle.mca_words.specs.declared.fault.WordKind.{WordKind}
+use Rattle.mca_words.specs.declared.fault.WordKind.TheVariants as word
 use Rattle.mca_words.specs.declared.options.Options.{Options}
-use Rattle.rv_asm.specs.Program.{IsProgram}
-use Rattle.rv_asm.specs.declared.item.AsmText.{AsmText}
+use Rattle.rv_asm.specs.declared.fault.AsmKind.{AsmKind}
+use Rattle.rv_asm.specs.declared.fault.AsmKind.TheVariants as asm
+use Rattle.rv_asm.specs.declared.fault.AsmRefusal.{AsmRefusal}
 use Rattle.rv_isa.specs.declared.instr.Instr.{Instr}
 use Rattle.sched_checks.specs.Illness.{illness_of}
 use Rattle.sched_checks.specs.declared.illness.IllKind.{IllKind}
 use Rattle.sched_checks.specs.declared.illness.IllKind.TheVariants as ill
-use Rattle.sched_entries.specs.Entries.{entries_of}
-use Rattle.sched_records.specs.Table.{HasRecords, HasFault}
+use Rattle.sched_resolve.specs.Entries.{entries_of}
+use Rattle.sched_records.specs.Table.{HasFault}
 use Rattle.sched_records.specs.declared.records.Record.{Record}
+use Rattle.sched_records.specs.declared.refusal.TableKind.{TableKind}
+use Rattle.sched_records.specs.declared.refusal.TableKind.TheVariants as table
+use Rattle.sched_records.specs.declared.refusal.TableRefusal.{TableRefusal}
 use Rattle.mca_run.specs.Asked.{IsWordFault}
-use Rattle.mca_run.specs.Items.{items_fault}
-use Rattle.mca_run.specs.Refusal.{Contents, IsTextFault, IsAsmRefusal, IsTableRefusal, IsCodeRefusal, IsRunRefusal}
+use Rattle.mca_run.specs.Machines.{fixed_of}
+use Rattle.mca_run.specs.Refusal.{Contents, WhereTold, IsTextFault, IsCodeRefusal, IsRefusal, IfRefused}
+use Rattle.mca_run.specs.Outcome.{NamedFault, NamedInOrder}
+use Rattle.mca_run.specs.declared.status.LimitKind.{LimitKind}
 use Rattle.mca_run.specs.declared.status.Status.{Status}
-use Rattle.mca_run.specs.declared.status.Status.TheVariants.{Done, Words, Assembly, Table, Machine, Limit, ReadFault, WriteFault, Memory}
+use Rattle.mca_run.specs.declared.status.Status.TheVariants.{Words, Assembly, Table, Machine, Limit, ReadFault, Memory}
 use Rattle.mca_run.specs.declared.status.MachineRefusal.TheVariants as machine
+
+-- The statuses of the refusals of the crates below; their want of memory is that of the tool
+
+abbrev pub words_status : WordFault → WordKind → Status
+words_status fault word.Memory = Memory
+words_status fault kind = Words fault
+
+abbrev pub assembly_status : AsmRefusal → AsmKind → Status
+assembly_status refusal asm.Memory = Memory
+assembly_status refusal kind = Assembly refusal
+
+abbrev pub table_status : TableRefusal → TableKind → Status
+table_status refusal table.Memory = Memory
+table_status refusal kind = Table refusal
+
+abbrev pub ill_status : ℕ → IllKind → Status
+ill_status number ill.Memory = Memory
+ill_status number kind = Machine (machine.Record number kind)
+
+-- The statuses with which a step may stop
 
 abbrev pub MayRefuseWords : List (List ℕ) → Status → Type 0
 MayRefuseWords words (Words fault) = IsWordFault words fault
 MayRefuseWords words Memory = ⊤
 MayRefuseWords words _ = ⊥
 
-abbrev pub MayRefuseInput : Contents → Options → Status → Type 0
-MayRefuseInput contents o ReadFault = ⊤
-MayRefuseInput contents o Memory = ⊤
-MayRefuseInput contents o Done = ⊥
-MayRefuseInput contents o WriteFault = ⊥
-MayRefuseInput contents o status = IsAsmRefusal contents o status
+-- a content was not read: the shelf failed, or it is too long
+abbrev pub IsUnread : Told → LimitKind → Status → Type 0
+IsUnread told limit ReadFault = ⊤
+IsUnread told limit Memory = ⊤
+IsUnread told limit (Limit kind n) = (kind ≡ limit) × (n ≡ MOST_TEXT_BYTES + 1) × IfContent told (λ content. MOST_TEXT_BYTES < length content)
+IsUnread told limit _ = ⊥
 
-abbrev pub MayRefuseTable : Contents → Options → Status → Type 0
-MayRefuseTable contents o ReadFault = ⊤
-MayRefuseTable contents o Memory = ⊤
-MayRefuseTable contents o Done = ⊥
-MayRefuseTable contents o WriteFault = ⊥
-MayRefuseTable contents o status = IsTableRefusal contents o status
+-- a text is no assembly
+abbrev pub MayRefuseText : List ℕ → Status → Type 0
+MayRefuseText text (Assembly refusal) = IsTextFault text refusal
+MayRefuseText text Memory = ⊤
+MayRefuseText text _ = ⊥
 
--- a text was taken as a program whose items have no fault, or refused with its first fault
-abbrev pub IsParsed : List ℕ → Result AsmText Status → Type 0
-IsParsed text (Ok asm) = IsProgram text asm.items asm.names × (items_fault asm.items ≡ None)
-IsParsed text (Err (Assembly refusal)) = IsTextFault text refusal
-IsParsed text (Err Memory) = ⊤
-IsParsed text (Err _) = ⊥
+-- a text has no records
+abbrev pub MayRefuseRecordsOf : List ℕ → Status → Type 0
+MayRefuseRecordsOf text (Table refusal) = HasFault text refusal
+MayRefuseRecordsOf text Memory = ⊤
+MayRefuseRecordsOf text _ = ⊥
 
--- a text was taken as records, or refused with its first fault
-abbrev pub IsTabled : List ℕ → Result (List Record) Status → Type 0
-IsTabled text (Ok records) = HasRecords text records
-IsTabled text (Err (Table refusal)) = HasFault text refusal
-IsTabled text (Err Memory) = ⊤
-IsTabled text (Err _) = ⊥
+-- records are no machine
+abbrev pub MayRefuseRecords : List Record → Status → Type 0
+MayRefuseRecords records (Machine (machine.Record number kind)) = illness_of (entries_of records) ≡ Some (record { number = number; kind = kind })
+MayRefuseRecords records Memory = ⊤
+MayRefuseRecords records _ = ⊥
 
 -- a machine refuses instructions
 abbrev pub MayRefuseCode : MachineMeaning → List Instr → ℕ → Status → Type 0
@@ -60,27 +86,23 @@ MayRefuseCode m code iterations (Limit kind n) = IsCodeRefusal m code iterations
 MayRefuseCode m code iterations Memory = ⊤
 MayRefuseCode m code iterations _ = ⊥
 
-abbrev pub MayRefuseRun : Contents → Options → List Instr → Status → Type 0
-MayRefuseRun contents o code ReadFault = ⊤
-MayRefuseRun contents o code Memory = ⊤
-MayRefuseRun contents o code Done = ⊥
-MayRefuseRun contents o code WriteFault = ⊥
-MayRefuseRun contents o code status = IsRunRefusal contents o code status
+-- a shelf tells the content of a name
+abbrev pub TellsName : (List ℕ → Told) → Contents → List ℕ → Type 0
+TellsName told contents name = told name ≡ Some (contents name)
 
--- records are refused for their illness
-abbrev pub MayRefuseRecords : List Record → Status → Type 0
-MayRefuseRecords records (Machine (machine.Record number kind)) = illness_of (entries_of records) ≡ Some (record { number = number; kind = kind })
-MayRefuseRecords records Memory = ⊤
-MayRefuseRecords records _ = ⊥
+-- .. of the table, where the options name no built-in machine
+abbrev pub TellsTable : (List ℕ → Told) → Contents → Options → Type 0
+TellsTable told contents o = fixed_of o ≡ None → TellsName told contents o.table
 
--- the status of an illness
-abbrev pub ill_status : ℕ → IllKind → Status
-ill_status number ill.Memory = Memory
-ill_status number kind = Machine (machine.Record number kind)
+-- why the tool has no report: a refusal that stands in the input, a read fault that was counted, or want of memory
+pub record IsStopped (words : List (List ℕ)) (told : List ℕ → Told) (before after : List ℕ → ℕ) (status : Status) : Type 0 where
+  pub refused : WhereTold words told (λ files. IfRefused (IsRefusal words files) status)
+  pub of_words : (fault : WordFault) → status ≡ Words fault → IsWordFault words fault
+  pub words_first : (fault : WordFault) → IsWordFault words fault → (status ≡ Words fault) ⊎ (status ≡ Memory)
+  pub fault : status ≡ ReadFault → NamedFault words before after
+  pub in_order : WhereTold words told (λ files. status ≡ ReadFault → NamedInOrder words files before after)
 
--- a step behind the words, whatever the files hold, ends with none of these
-abbrev pub OfFiles : Status → Type 0
-OfFiles (Words fault) = ⊥
-OfFiles Done = ⊥
-OfFiles WriteFault = ⊥
-OfFiles _ = ⊤
+-- a step behind the words never refuses them
+abbrev pub IsOfFiles : Status → Type 0
+IsOfFiles (Words fault) = ⊥
+IsOfFiles _ = ⊤

@@ -1,12 +1,12 @@
 //! The report on a body.
 ghost use Rattle.std.specs.Prelude.{◌≡◌, ◌≤◌, ◌<◌, ◌*◌, ◌++◌, codes, decimal, length, false, IfOk, string_bytes};
-ghost use Rattle.mca_run.specs.Simple.{not_yet, AreBound};
+ghost use Rattle.cycle_rules.specs.Bind.{IsBoundBody};
 ghost use Rattle.mca_run.specs.Report.{summary_lines, IsCodeReport};
 
-use crate::engine::run;
 use cycle_rules::Bound;
 use machine_model::Machine;
-use mca_fixed::NoMemory;
+use mca_fixed::{MOST_ROWS, NoMemory};
+use plain_engine::{PlainEngine, PlainFault};
 use std::alloc::Global;
 
 /// A label in a cell of 19 places, and a number.
@@ -26,7 +26,7 @@ fn summary(alloc: Global, iterations: u64, rows: u64, total: u64) -> Result<Stri
     Ok(text)
 }
 
-/// The report on a body that is bound to a machine and not refused, repeated so often.
+/// The report on a body that is bound to a machine, repeated so often.
 pub(crate) fn report_on<M: Machine>(
     alloc: Global,
     machine: &M,
@@ -35,12 +35,14 @@ pub(crate) fn report_on<M: Machine>(
 ) -> Result<String, NoMemory>
     requires some { 0 < length body.now }
     requires repeated { 0 < iterations }
-    requires few { iterations * length body.now ≤ 1048576 }
-    requires body { AreBound (M.meaning machine.now) body.now }
-    requires built { not_yet (M.meaning machine.now) body.now ≡ false }
+    requires few { iterations * length body.now ≤ MOST_ROWS }
+    requires bound { IsBoundBody (M.meaning machine.now) body.now }
     ensures { IfOk result (λ text. IsCodeReport (M.meaning machine.now) body.now iterations (string_bytes text)) }
 {
-    let run = run(alloc, body, iterations)?;
+    let run = match PlainEngine::run(alloc, machine, body, iterations) {
+        Ok(run) => run,
+        Err(PlainFault::Memory) => return Err(NoMemory),
+    };
     summary(
         alloc,
         u64::from(iterations),

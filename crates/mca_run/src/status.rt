@@ -63,8 +63,6 @@ pub enum MachineRefusal {
     Record(u32, IllKind),
     /// The machine does not run an opcode of the program.
     Opcode(Op, OpKind),
-    /// The engine does not run the program on the machine yet.
-    NotYet,
 }
 
 /// How a call of the tool ended.
@@ -158,7 +156,6 @@ fn machine_line(alloc: Global, refusal: MachineRefusal) -> Result<String, NoMemo
             kind.name(),
         ),
         MachineRefusal::Opcode(op, kind) => opcode_line(alloc, mnemonic(op), kind.name()),
-        MachineRefusal::NotYet => Ok(String::from_str(alloc, "mca: machine: NotYet\n")?),
     }
 }
 

@@ -1,23 +1,41 @@
-use Rattle.std.proofs.Common.{◌≡◌, ◌<◌, length, ap, subst, Err}
-use Rattle.mca_io.specs.Devices.{IfContent}
-use Rattle.mca_run.specs.Refusal.{most_bytes}
-use Rattle.mca_run.specs.Steps.{IsParsed}
-use Rattle.mca_run.proofs.Contents.{long_assembly, parsed_ok, parsed_err, parsed_of_files}
+use Rattle.std.proofs.Common.{◌≡◌, subst}
+use Rattle.std.proofs.lemmas.Result.{err_from_is_err_and}
+use Rattle.mca_io.specs.Devices.{IfContent, Rose}
+use Rattle.mca_run.specs.Steps.{IsUnread}
+use Rattle.mca_run.specs.declared.stop.Stop.{Stop}
+use Rattle.mca_run.specs.declared.status.LimitKind.TheVariants.{AssemblyBytes}
+use Rattle.mca_run.specs.declared.status.Status.TheVariants.{ReadFault}
+use Rattle.mca_run.proofs.Contents.{unread_assembly, unread_of_files, program_ok, program_err, program_of_files, program_read}
 use Rattle.mca_run.proofs.files.read_assembly.Goals as goal
 
-pub returns-in-Err-TooLong-clause-err : goal.returns-in-Err-TooLong-clause-err
-returns-in-Err-TooLong-clause-err g c = λ contents tells. long_assembly (g.F.Shelf.told c.args.shelf.now) c.args.options.now contents tells
-    (subst (λ name. IfContent (g.F.Shelf.told c.args.shelf.now name) (λ content. most_bytes < length content)) c.as_str.ensures (c.in-Err-TooLong.ensures.too_long (ap Err c.in-Err-TooLong.field-0-is)))
+pub returns-in_err-text-clause-err : goal.returns-in_err-text-clause-err
+returns-in_err-text-clause-err g c =
+    let p = err_from_is_err_and c.from_residual.result c.from_residual.ensures.1 in
+    let h = subst (λ name. IsUnread (g.F.Shelf.told c.args.shelf.now name) AssemblyBytes c.in_err-text.field-0.0.status) c.as_str.ensures c.in_err-text.ensures.err in
+    rw (p.1, p.2) (λ contents tells. unread_assembly contents c.args.options.now (g.F.Shelf.told c.args.shelf.now) c.in_err-text.field-0.0.status tells h)
 
-pub returns-in-Ok-clause-ok : goal.returns-in-Ok-clause-ok
-returns-in-Ok-clause-ok g c = parsed_ok (g.F.Shelf.told c.args.shelf.now) c.args.options.now c.in-Ok.text.items c.program.result c.in-Ok.ensures.short
-    (subst (λ name. IfContent (g.F.Shelf.told c.args.shelf.now name) (λ content. c.in-Ok.text.items ≡ content)) c.as_str.ensures c.in-Ok.ensures.content)
-    (subst (λ t. IsParsed t c.program.result) c.deref.ensures.value c.program.ensures.parsed)
+pub returns-in_err-text-clause-of_files : goal.returns-in_err-text-clause-of_files
+returns-in_err-text-clause-of_files g c =
+    let p = err_from_is_err_and c.from_residual.result c.from_residual.ensures.1 in
+    rw (p.1, p.2) (unread_of_files (g.F.Shelf.told c.args.shelf.now c.as_str.result.now) AssemblyBytes c.in_err-text.field-0.0.status c.in_err-text.ensures.err)
 
-pub returns-in-Ok-clause-err : goal.returns-in-Ok-clause-err
-returns-in-Ok-clause-err g c = parsed_err (g.F.Shelf.told c.args.shelf.now) c.args.options.now c.in-Ok.text.items c.program.result c.in-Ok.ensures.short
-    (subst (λ name. IfContent (g.F.Shelf.told c.args.shelf.now name) (λ content. c.in-Ok.text.items ≡ content)) c.as_str.ensures c.in-Ok.ensures.content)
-    (subst (λ t. IsParsed t c.program.result) c.deref.ensures.value c.program.ensures.parsed)
+pub returns-in_err-text-clause-fault : goal.returns-in_err-text-clause-fault
+returns-in_err-text-clause-fault g c =
+    let p = err_from_is_err_and c.from_residual.result c.from_residual.ensures.1 in
+    rw (p.1, p.2) (subst (λ name. c.in_err-text.field-0.0.status ≡ ReadFault → Rose (g.F.Shelf.faults c.args.shelf.now name) (g.F.Shelf.faults c.content.new.shelf name)) c.as_str.ensures c.in_err-text.ensures.fault)
 
-pub returns-in-Ok-clause-of_files : goal.returns-in-Ok-clause-of_files
-returns-in-Ok-clause-of_files g c = parsed_of_files c.deref.result.now c.program.result c.program.ensures.parsed
+pub returns-clause-ok : goal.returns-clause-ok
+returns-clause-ok g c = program_ok (g.F.Shelf.told c.args.shelf.now) c.args.options.now c.deref.result.now c.program.result (rw c.deref.ensures.value c.in_ok-text.ensures.short)
+    (rw c.deref.ensures.value (subst (λ name. IfContent (g.F.Shelf.told c.args.shelf.now name) (λ content. c.in_ok-text.text.items ≡ content)) c.as_str.ensures c.in_ok-text.ensures.content))
+    c.program.ensures.program c.program.ensures.lawful
+
+pub returns-clause-err : goal.returns-clause-err
+returns-clause-err g c = program_err (λ (s : Stop). s.status) (g.F.Shelf.told c.args.shelf.now) c.args.options.now c.deref.result.now c.program.result (rw c.deref.ensures.value c.in_ok-text.ensures.short)
+    (rw c.deref.ensures.value (subst (λ name. IfContent (g.F.Shelf.told c.args.shelf.now name) (λ content. c.in_ok-text.text.items ≡ content)) c.as_str.ensures c.in_ok-text.ensures.content))
+    c.program.ensures.err
+
+pub returns-clause-of_files : goal.returns-clause-of_files
+returns-clause-of_files g c = program_of_files (λ (s : Stop). s.status) c.deref.result.now c.program.result c.program.ensures.err
+
+pub returns-clause-fault : goal.returns-clause-fault
+returns-clause-fault g c = program_read (λ (s : Stop). s.status) c.deref.result.now _ c.program.result c.program.ensures.err

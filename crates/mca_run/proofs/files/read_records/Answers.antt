@@ -1,18 +1,41 @@
-use Rattle.std.proofs.Common.{◌≡◌, ◌<◌, length, ap, subst, Err}
-use Rattle.mca_io.specs.Devices.{IfContent}
-use Rattle.mca_run.specs.Refusal.{most_bytes}
-use Rattle.mca_run.specs.Steps.{IsTabled}
-use Rattle.mca_run.proofs.Contents.{long_table, tabled_err, tabled_of_files}
+use Rattle.std.proofs.Common.{◌≡◌, subst}
+use Rattle.std.proofs.lemmas.Result.{err_from_is_err_and}
+use Rattle.mca_io.specs.Devices.{IfContent, Rose}
+use Rattle.mca_run.specs.Steps.{IsUnread}
+use Rattle.mca_run.specs.declared.stop.Stop.{Stop}
+use Rattle.mca_run.specs.declared.status.LimitKind.TheVariants.{TableBytes}
+use Rattle.mca_run.specs.declared.status.Status.TheVariants.{ReadFault}
+use Rattle.mca_run.proofs.Contents.{unread_table, unread_of_files, records_ok, records_err, records_of_files, records_read}
 use Rattle.mca_run.proofs.files.read_records.Goals as goal
 
-pub returns-in-Err-TooLong-clause-err : goal.returns-in-Err-TooLong-clause-err
-returns-in-Err-TooLong-clause-err g c = λ contents tells. long_table (g.F.Shelf.told c.args.shelf.now) c.args.options.now contents tells
-    (subst (λ name. IfContent (g.F.Shelf.told c.args.shelf.now name) (λ content. most_bytes < length content)) c.as_str.ensures (c.in-Err-TooLong.ensures.too_long (ap Err c.in-Err-TooLong.field-0-is)))
+pub returns-in_err-text-clause-err : goal.returns-in_err-text-clause-err
+returns-in_err-text-clause-err g c =
+    let p = err_from_is_err_and c.from_residual.result c.from_residual.ensures.1 in
+    let h = subst (λ name. IsUnread (g.F.Shelf.told c.args.shelf.now name) TableBytes c.in_err-text.field-0.0.status) c.as_str.ensures c.in_err-text.ensures.err in
+    rw (p.1, p.2) (λ contents tells. unread_table contents c.args.options.now (g.F.Shelf.told c.args.shelf.now) c.in_err-text.field-0.0.status tells h)
 
-pub returns-in-Ok-clause-err : goal.returns-in-Ok-clause-err
-returns-in-Ok-clause-err g c = tabled_err (g.F.Shelf.told c.args.shelf.now) c.args.options.now c.in-Ok.text.items c.records.result c.in-Ok.ensures.short
-    (subst (λ name. IfContent (g.F.Shelf.told c.args.shelf.now name) (λ content. c.in-Ok.text.items ≡ content)) c.as_str.ensures c.in-Ok.ensures.content)
-    (subst (λ t. IsTabled t c.records.result) c.deref.ensures.value c.records.ensures.tabled)
+pub returns-in_err-text-clause-of_files : goal.returns-in_err-text-clause-of_files
+returns-in_err-text-clause-of_files g c =
+    let p = err_from_is_err_and c.from_residual.result c.from_residual.ensures.1 in
+    rw (p.1, p.2) (unread_of_files (g.F.Shelf.told c.args.shelf.now c.as_str.result.now) TableBytes c.in_err-text.field-0.0.status c.in_err-text.ensures.err)
 
-pub returns-in-Ok-clause-of_files : goal.returns-in-Ok-clause-of_files
-returns-in-Ok-clause-of_files g c = tabled_of_files c.deref.result.now c.records.result c.records.ensures.tabled
+pub returns-in_err-text-clause-fault : goal.returns-in_err-text-clause-fault
+returns-in_err-text-clause-fault g c =
+    let p = err_from_is_err_and c.from_residual.result c.from_residual.ensures.1 in
+    rw (p.1, p.2) (subst (λ name. c.in_err-text.field-0.0.status ≡ ReadFault → Rose (g.F.Shelf.faults c.args.shelf.now name) (g.F.Shelf.faults c.content.new.shelf name)) c.as_str.ensures c.in_err-text.ensures.fault)
+
+pub returns-clause-ok : goal.returns-clause-ok
+returns-clause-ok g c = records_ok (g.F.Shelf.told c.args.shelf.now) c.args.options.now c.deref.result.now c.records.result (rw c.deref.ensures.value c.in_ok-text.ensures.short)
+    (rw c.deref.ensures.value (subst (λ name. IfContent (g.F.Shelf.told c.args.shelf.now name) (λ content. c.in_ok-text.text.items ≡ content)) c.as_str.ensures c.in_ok-text.ensures.content))
+    c.records.ensures.has
+
+pub returns-clause-err : goal.returns-clause-err
+returns-clause-err g c = records_err (λ (s : Stop). s.status) (g.F.Shelf.told c.args.shelf.now) c.args.options.now c.deref.result.now c.records.result (rw c.deref.ensures.value c.in_ok-text.ensures.short)
+    (rw c.deref.ensures.value (subst (λ name. IfContent (g.F.Shelf.told c.args.shelf.now name) (λ content. c.in_ok-text.text.items ≡ content)) c.as_str.ensures c.in_ok-text.ensures.content))
+    c.records.ensures.err
+
+pub returns-clause-of_files : goal.returns-clause-of_files
+returns-clause-of_files g c = records_of_files (λ (s : Stop). s.status) c.deref.result.now c.records.result c.records.ensures.err
+
+pub returns-clause-fault : goal.returns-clause-fault
+returns-clause-fault g c = records_read (λ (s : Stop). s.status) c.deref.result.now _ c.records.result c.records.ensures.err
