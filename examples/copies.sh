@@ -13,7 +13,7 @@ compare() {
 }
 
 for file in examples/each.s examples/kernels/*.s machines/*.td; do
-    compare "$file" mca_examples
+    compare "$file" mca_cases
 done
 for file in examples/add.s examples/b.td; do
     compare "$file" mca_cli

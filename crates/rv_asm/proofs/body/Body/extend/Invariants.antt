@@ -1,6 +1,0 @@
-use Rattle.std.proofs.Common.{◌≡◌, drop}
-use Rattle.rv_asm.specs.Statement.{behind}
-use Rattle.rv_asm.proofs.body.Body.extend.Given as goal
-
-abbrev pub invariant-loop-b : goal.invariant-loop-b
-invariant-loop-b l = behind l.self (drop l.b-index l.bytes) ≡ behind l.fn.self l.bytes
