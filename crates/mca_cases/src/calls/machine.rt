@@ -1,11 +1,13 @@
 //! The calls of `sched_validate`: the machine of a table, and instructions bound to it.
+ghost use Rattle.std.specs.Prelude.{◌≤◌, length, IfOk};
+
 use crate::case::Case;
 use crate::fault::{Fault, wrong};
 use cycle_rules::Bound;
 use machine_model::{ClassAnswer, Limits, Machine, NO_CLASS, Tuning, WriteFacts};
 use mca_fixed::MOST_TEXT_BYTES;
 use rv_isa::{Imm, Instr, Op, Reg, mnemonic};
-use sched_records::{Records, read_table};
+use sched_records::{MOST_RECORDS, Records, read_table};
 use sched_resolve::all_opcodes;
 use sched_validate::{bind, validate};
 use std::alloc::Global;
@@ -53,7 +55,9 @@ fn body(alloc: Global, table: &[u8], code: &[u8]) -> Result<String, Fault> {
 // What a case gives
 
 /// The records of a table.
-fn records_of(alloc: Global, table: &[u8]) -> Result<Records, Fault> {
+fn records_of(alloc: Global, table: &[u8]) -> Result<Records, Fault>
+    ensures { IfOk result (λ records. length records ≤ MOST_RECORDS) }
+{
     if table.len() > MOST_TEXT_BYTES {
         return Err(wrong(alloc, "longer than the call takes", "table"));
     }
