@@ -8,3 +8,9 @@ pub const MOST_REGION_INSTRUCTIONS: usize = 4_096;
 
 /// The most rows of a run: iterations times instructions of the region.
 pub const MOST_ROWS: u64 = 1_048_576;
+
+/// The most regions of a text.
+pub const MOST_REGIONS: usize = 64;
+
+/// The most bytes of a report.
+pub const MOST_REPORT_BYTES: usize = 67_108_864;
