@@ -68,7 +68,7 @@ second_false true b h k = k
 second_false false b h k = cc
 
 -- an event that is not known after its key was not allowed there
-refused : {P : Type 0} (r : Rules P) (m c e : ℕ) → e < m → (o : Option (Fall P)) → next r m (known_at r m (key m c e)) (key m c e) e o ≡ None → r.allowed (known_at r m (key m c e)) c e ≡ false
+pub refused : {P : Type 0} (r : Rules P) (m c e : ℕ) → e < m → (o : Option (Fall P)) → next r m (known_at r m (key m c e)) (key m c e) e o ≡ None → r.allowed (known_at r m (key m c e)) c e ≡ false
 refused r m c e in_m (Some g) now = cc
 refused r m c e in_m None now =
     let test : Bool = nat_eq e (key m c e % m) && r.allowed (known_at r m (key m c e)) (key m c e / m) e in
@@ -78,15 +78,15 @@ refused r m c e in_m None now =
           subst (λ n. r.allowed (known_at r m (key m c e)) n e ≡ false) (div-mul-add c m e in_m) (second_false _ _ at h.0))
     ]
 
-cases : {A : Type 0} (o : Option A) → (o ≡ None) ⊎ ((x : A) × (o ≡ Some x))
+pub cases : {A : Type 0} (o : Option A) → (o ≡ None) ⊎ ((x : A) × (o ≡ Some x))
 cases None = inl refl
 cases (Some x) = inr (x, refl)
 
 -- known at k, and so later
-upward : {P : Type 0} (r : Rules P) (m k n e : ℕ) (f : Fall P) → k ≤ n → known_at r m k e ≡ Some f → known_at r m n e ≡ Some f
+pub upward : {P : Type 0} (r : Rules P) (m k n e : ℕ) (f : Fall P) → k ≤ n → known_at r m k e ≡ Some f → known_at r m n e ≡ Some f
 upward r m k n e f le is = let sum : k + (n - k) ≡ n = omega arith in subst (λ x. known_at r m x e ≡ Some f) sum (stays_known r m k (n - k) e f is)
 
-not_both : {A : Type 0} (o : Option A) (x : A) → o ≡ None → o ≡ Some x → ⊥
+pub not_both : {A : Type 0} (o : Option A) (x : A) → o ≡ None → o ≡ Some x → ⊥
 not_both o x p q = cc
 
 -- what is known at a key is what is seen there of the whole

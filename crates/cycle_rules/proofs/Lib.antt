@@ -1,4 +1,5 @@
 pub mod WorkedRuns
+pub mod Check
 pub mod PassesRun
 pub mod Counts
 pub mod Sums
@@ -20,3 +21,20 @@ pub mod UnitRows
 pub mod AllOver
 pub mod Quiet
 pub mod RunEnds
+pub mod Leads
+pub mod HoldSums
+pub mod Fractions
+pub mod LeastFrom
+pub mod WaitsTimed
+pub mod Issued
+pub mod Below
+pub mod Groups
+pub mod SeenRows
+pub mod Places
+pub mod Scan
+pub mod Stills
+pub mod Wrong
+pub mod Judging
+pub mod Free
+pub mod Earlier
+pub mod SeenIssues

@@ -9,7 +9,7 @@ use Rattle.cycle_rules.specs.Issue.{can_issue}
 use Rattle.cycle_rules.specs.Row.{Input, Table, times}
 use Rattle.cycle_rules.specs.Run.{IsIssue, IsRow, IsRunOf}
 use Rattle.cycle_rules.specs.Seen.{sees}
-use Rattle.cycle_rules.specs.Check.{first_at, row_passes, passes}
+use Rattle.cycle_rules.proofs.Check.{first_at, row_passes, passes}
 use Rattle.cycle_rules.specs.declared.times.Times.{Times}
 use Rattle.cycle_rules.proofs.Tests.{all_hold, all_holds}
 

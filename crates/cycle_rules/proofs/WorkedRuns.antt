@@ -12,7 +12,7 @@ use Rattle.cycle_rules.specs.Issue.{producer, has_operand, has_operands, is_fenc
 use Rattle.cycle_rules.specs.Retire.{can_retire}
 use Rattle.cycle_rules.specs.Seen.{comes_before}
 use Rattle.cycle_rules.specs.CycleBound.{max_below, most_lag, cycle_bound, turn_bound}
-use Rattle.cycle_rules.specs.Check.{passes}
+use Rattle.cycle_rules.proofs.Check.{passes}
 use Rattle.cycle_rules.specs.Run.{IsRunOf, total_of}
 use Rattle.cycle_rules.specs.Worked.{Example}
 use Rattle.cycle_rules.specs.Examples.{examples, worked_bounds}

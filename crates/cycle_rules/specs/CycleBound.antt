@@ -31,6 +31,6 @@ cycles_of uops width = (uops + width - 1) / width
 unfoldable pub cycle_bound : Input → ℕ
 cycle_bound g = 1 + sum_below g.rows (λ j. 4 + (g.row j).latency + most_lag g.machine + reach (g.row j).uses + cycles_of (uops_of g j) g.machine.limits.width)
 
--- meant for the turns of an engine: 1, and for each row 8 and as many as it has uses. No law says yet that an engine keeps below it
+-- for the turns of an engine: 1, and for each row 8 and as many as it has uses. One that turns only in cycles in which something falls due keeps below it (`event_rules`)
 unfoldable pub turn_bound : Input → ℕ
 turn_bound g = 1 + sum_below g.rows (λ j. 8 + length (g.row j).uses)

@@ -11,6 +11,12 @@ pub mod Events
 pub mod Bind
 pub mod CycleBound
 pub mod Held
-pub mod Check
+pub mod Holds
+pub mod Given
+pub mod Judged
+pub mod Still
+pub mod Waits
+pub mod WaitTimes
+pub mod Totals
 pub mod Worked
 pub mod Examples

@@ -9,9 +9,14 @@
 //! | `Row` | the rows of a run, and what stands for a table of their times |
 //! | `Dispatch`, `Issue`, `Retire` | when a row may do so; `Pick` has the units that it takes |
 //! | `Seen` | what a condition may look at: the order of events |
-//! | `Run` | the run as a whole; `Check` tests a table |
+//! | `Run` | the run as a whole |
+//! | `Judged` | which field of a table is the first that is not as the rules say |
+//! | `Given`, `Still` | the words of its private functions: what is judged, and when nothing changes |
 //! | `Schedule`, `Events` | the run as events, and what the rules give below a bound |
+//! | `Waits`, `WaitTimes` | how long rows wait, and how that is read from the times of a table |
 //! | `Held`, `CycleBound` | how long units are held, and the bound |
+//! | `Holds` | the cycles for which the rows hold a unit, summed |
+//! | `Totals` | the numbers of a run as a whole, and reciprocal throughputs |
 //! | `Examples` | for each rule a run and a table that breaks it, in the words of `Worked` |
 //!
 //! The rules follow the outline of LLVM's Command Guide for llvm-mca ("How llvm-mca works"); where the
@@ -19,7 +24,6 @@
 #![tactic(auto)]
 
 ghost use Rattle.std.specs.Prelude.{◌≡◌, ◌≤◌, ◌<◌, ◌+◌, ◌^◌, ℕ, is_some, List, [], ◌∷◌, map, nat_lt, true, false};
-ghost use Rattle.std.specs.Bool.{Decides};
 ghost use Rattle.std.specs.List.{All};
 ghost use Rattle.machine_model.specs.Meaning.{MachineMeaning};
 ghost use Rattle.machine_model.specs.Valid.{IsValidMachine};
@@ -31,18 +35,37 @@ ghost use Rattle.cycle_rules.specs.Held.{AllEnd, AllBegun, NoChange, changes_at,
 ghost use Rattle.cycle_rules.specs.Pick.{Taken, pick, pick_units, taken_by};
 ghost use Rattle.cycle_rules.specs.Seen.{has_issued, sees};
 ghost use Rattle.cycle_rules.specs.Row.{Row, Input, Table, input, times};
+ghost use Rattle.cycle_rules.specs.WaitTimes.{IsTimed, IsInTime, by_phase, by_issue};
 ghost use Rattle.cycle_rules.specs.Run.{IsRun, IsRunOf, total_of};
 ghost use Rattle.cycle_rules.specs.Schedule.{Rules, Known, IsSchedule, made};
 ghost use Rattle.cycle_rules.specs.Events.{events, rules_of, run_below, retired_below};
-ghost use Rattle.cycle_rules.specs.Check.{passes};
+ghost use Rattle.cycle_rules.specs.Totals.{AreFractions, IsOneOf, greatest, is_less};
+ghost use Rattle.mca_fixed.specs.declared.decimals.Frac.{Frac as FracOf};
 ghost use Rattle.cycle_rules.specs.Examples.{examples, worked_bounds};
 ghost use Rattle.cycle_rules.specs.declared.bound.Bound.{Bound as BoundOf};
 ghost use Rattle.cycle_rules.specs.declared.times.Times.{Times as TimesOf};
 
 mod bound;
+mod finds;
+mod given;
+mod holds;
+mod judge;
+mod next;
+mod operands;
+mod pipe;
+mod place;
+mod room;
+mod starts;
+mod steps;
 mod times;
 
 pub use bound::{Bound, Source};
+pub use holds::{holds_add_up, sum_holds, sum_holds_at};
+pub use judge::check_run;
+pub use operands::{lead, lead_of};
+pub use pipe::{Pipe, drive};
+pub use place::{Field, Place};
+pub use steps::Steps;
 pub use times::{NO_UNIT, Timeline, Times};
 
 /// Each instruction of a body that is bound by a machine has the numbers of its classes, in their
@@ -130,11 +153,30 @@ pub fn run_ends()
         AreBoundRows g → g.rows ≤ 2 ^ 20 → cycle_bound g < 2 ^ 41 }
 {}
 
-/// A test tells runs from other tables. And for each rule, by its name, there is an example that was
-/// worked out by hand: its run, which ends within the bound, and a table that breaks that rule alone.
-/// And the numbers of `CycleBound` on worked rows.
+/// The greatest of fractions, none of which has the denominator 0, is one of them, and none is above it.
+pub fn greatest_of_fractions()
+    ensures one { (first : FracOf) (n : ℕ) (f : ℕ → FracOf) →
+        IsOneOf first n f (greatest first n f) }
+    ensures first { (first : FracOf) (n : ℕ) (f : ℕ → FracOf) → AreFractions first n f →
+        is_less (greatest first n f) first ≡ false }
+    ensures others { (first : FracOf) (n : ℕ) (f : ℕ → FracOf) → AreFractions first n f →
+        (k : ℕ) → k < n → is_less (greatest first n f) (f k) ≡ false }
+{}
+
+/// The waits of rows, read from the times of a table without walking its cycles: of any table, where a
+/// reserved row is found to have issued a cycle later by a row that is not reserved; of a run, by the
+/// issues alone, and there no row waits longer than until its issue.
+pub fn waits_timed()
+    ensures table { (g : Input) (t : Table) → IsTimed g t (by_phase g t) }
+    ensures run { (g : Input) (table : List TimesOf) → IsRunOf g table →
+        IsTimed g (times table) (by_issue (times table)) }
+    ensures time { (g : Input) (table : List TimesOf) → IsRunOf g table → IsInTime g (times table) }
+{}
+
+/// For each rule, by its name, there is an example that was worked out by hand: its run, which ends
+/// within the bound, and a table that breaks that rule alone. And the numbers of `CycleBound` on worked
+/// rows.
 pub fn worked()
-    ensures test { (g : Input) (table : List TimesOf) → Decides (passes g table) (IsRunOf g table) }
     ensures runs { All (λ e. IsRunOf e.input e.run) examples }
     ensures broken { All (λ e. IsRunOf e.input e.broken → ⊥) examples }
     ensures within { All (λ e. total_of e.run ≤ cycle_bound e.input) examples }

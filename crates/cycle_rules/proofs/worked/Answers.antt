@@ -1,9 +1,5 @@
-use Rattle.cycle_rules.proofs.PassesRun.{passes_decides}
 use Rattle.cycle_rules.proofs.WorkedRuns.{runs_are, broken_are, totals_are_within, bounds_are}
 use Rattle.cycle_rules.proofs.worked.Goals as goal
-
-pub returns-clause-test : goal.returns-clause-test
-returns-clause-test c = passes_decides
 
 pub returns-clause-runs : goal.returns-clause-runs
 returns-clause-runs c = runs_are

@@ -1,4 +1,4 @@
--- Whether a table is the run, as a test.
+-- Whether a table is the run, as a test by which worked runs are computed.
 use Rattle.std.specs.Prelude.{ℕ, ◌+◌, List, length, Bool, not, ◌&&◌, nat_eq, if◌then◌else◌}
 use Rattle.std.specs.Cmp.Lexicographic.{pointwise}
 use Rattle.cycle_rules.specs.Below.{all_below}
