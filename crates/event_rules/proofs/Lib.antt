@@ -1,0 +1,12 @@
+pub mod Same
+pub mod Views
+pub mod Reached
+pub mod Blocked
+pub mod TakenStill
+pub mod StillTests
+pub mod Quiet
+pub mod Turns
+pub mod Skips
+pub mod Clears
+pub mod EventSteps
+pub mod ChangesTold

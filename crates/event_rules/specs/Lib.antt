@@ -1,0 +1,4 @@
+pub mod Due
+pub mod Skip
+pub mod Clear
+pub mod Parts
