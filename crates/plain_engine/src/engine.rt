@@ -1,25 +1,18 @@
 //! The run, cycle by cycle until all rows have retired.
-ghost use Rattle.std.specs.Prelude.{◌≡◌, ◌<◌, ◌≤◌, ◌+◌, ◌*◌, ◌^◌, ℕ, length, map, IfOk};
+ghost use Rattle.std.specs.Prelude.{◌≡◌, ◌<◌, ◌≤◌, ◌*◌, ◌^◌, ℕ, length, map, true, IfOk};
 ghost use Rattle.cycle_rules.specs.Bind.{row_of, IsBoundBody};
 ghost use Rattle.cycle_rules.specs.CycleBound.{cycle_bound};
 ghost use Rattle.cycle_rules.specs.Row.{input};
 ghost use Rattle.cycle_rules.specs.Run.{IsRun, total_of};
-ghost use Rattle.engine_state.specs.InTurn.{IssuesInTurn};
-ghost use Rattle.engine_state.specs.State.{at, taken_now};
-ghost use Rattle.resource_units.specs.Stand.{StandsFor as UnitsStandFor, machine_of};
 ghost use Rattle.cycle_rules.specs.Events.{retired_below};
-ghost use Rattle.plain_engine.specs.Flight.{IsFlight};
+ghost use Rattle.engine_state.specs.InTurn.{IssuesInTurn};
+ghost use Rattle.engine_steps.specs.Done.{all_retired};
+ghost use Rattle.engine_steps.specs.Pipeline.{run_of, IsDone};
 
-use crate::dispatch::dispatch_rows;
-use crate::flight::{Flight, start};
-use crate::issue::issue_rows;
-use crate::plan::Plan;
-use crate::retire::retire_rows;
-use crate::rows::Rows;
 use cycle_rules::{Bound, Timeline};
+use engine_steps::Pipeline;
 use machine_model::Machine;
-use mca_fixed::{Items, MOST_ROWS, NoMemory};
-use resource_units::Units;
+use mca_fixed::{MOST_ROWS, NoMemory};
 use std::alloc::Global;
 
 /// A cycle before which all rows of every run retire.
@@ -69,49 +62,25 @@ impl PlainEngine {
         ensures order { IfOk result (λ t. IssuesInTurn
             (input (M.meaning machine.now) (map row_of body.now) iterations) t.rows) }
     {
-        let plan = Plan::make(alloc, machine, body, iterations as usize)?;
-        let mut units = Units::make(alloc, machine)?;
-        let mut flight = start(alloc, machine, &plan)?;
-        cycles(&plan, &mut units, &mut flight);
-        let Flight { table, .. } = flight;
-        Ok(Timeline {
-            rows: Items::from_vec(table),
-        })
+        let mut pipeline = Pipeline::make(alloc, machine, body, iterations)?;
+        cycles(&mut pipeline);
+        Ok(pipeline.finish())
     }
 }
 
 // The cycles of a run, until all rows have retired.
-fn cycles<M: Machine, R: Rows>(rows: &R, units: &mut Units<M>, f: &mut Flight)
-    requires machine { machine_of M.meaning units.old ≡ (R.input rows.now).machine }
-    requires units { UnitsStandFor M.meaning M.Mask.holds 0 units.old (taken_now
-        (R.input rows.now) 0 f.old.table.items) }
-    requires flight { IsFlight (R.input rows.now) f.old 0 (at (R.input rows.now) 0 0 0) }
-    requires ends { (R.input rows.now).rows ≤ retired_below (R.input rows.now) (2 ^ 41) }
-    ensures { (c : ℕ) × (IsFlight (R.input rows.now) f.new c (at (R.input rows.now) c 0 0)
-        × ((R.input rows.now).rows ≤ f.new.front)) }
+fn cycles<M: Machine>(pipeline: &mut Pipeline<M>)
+    requires done { IsDone M.meaning M.Mask.holds pipeline.old 0 }
+    requires ends { (run_of M.meaning pipeline.old).rows
+        ≤ retired_below (run_of M.meaning pipeline.old) (2 ^ 41) }
+    ensures run { run_of M.meaning pipeline.new ≡ run_of M.meaning pipeline.old }
+    ensures done { (c : ℕ) × (IsDone M.meaning M.Mask.holds pipeline.new c)
+        × (all_retired (run_of M.meaning pipeline.new) c ≡ true) }
 {
-    let count = rows.count();
     for c in 0..LAST_CYCLE {
-        if f.front >= count {
+        if pipeline.is_over() {
             return;
         }
-        turn(rows, units, f, c);
+        pipeline.turn(c);
     }
-}
-
-// The events of a cycle.
-fn turn<M: Machine, R: Rows>(rows: &R, units: &mut Units<M>, f: &mut Flight, c: u64)
-    requires low { c + 1 < 2 ^ 42 }
-    requires machine { machine_of M.meaning units.old ≡ (R.input rows.now).machine }
-    requires units { UnitsStandFor M.meaning M.Mask.holds c units.old (taken_now
-        (R.input rows.now) c f.old.table.items) }
-    requires flight { IsFlight (R.input rows.now) f.old c (at (R.input rows.now) c 0 0) }
-    ensures flight { IsFlight (R.input rows.now) f.new (c + 1) (at (R.input rows.now) (c + 1) 0 0) }
-    ensures units { UnitsStandFor M.meaning M.Mask.holds (c + 1) units.new (taken_now
-        (R.input rows.now) (c + 1) f.new.table.items) }
-    ensures machine { machine_of M.meaning units.new ≡ (R.input rows.now).machine }
-{
-    retire_rows(rows, f, c);
-    issue_rows(rows, units, f, c);
-    dispatch_rows(rows, units, f, c);
 }

@@ -1,0 +1,11 @@
+pub mod Waiting
+pub mod Accesses
+pub mod Moving
+pub mod Falling
+pub mod Steps
+pub mod Wakes
+pub mod Refusals
+pub mod Enters
+pub mod Producers
+pub mod Operands
+pub mod Bodies

@@ -1,0 +1,211 @@
+//! The rows of a body on a machine.
+ghost use Rattle.std.specs.Prelude.{◌≡◌, ◌<◌, ◌≤◌, ◌*◌, ◌-◌, ◌^◌, ℕ, length, map, IfOk, not, ◌&&◌, nat_eq, nat_le, if◌then◌else◌};
+ghost use Rattle.std.specs.List.{All};
+ghost use Rattle.cycle_rules.specs.Bind.{row_of, AreBound, IsBoundBody};
+ghost use Rattle.issue_queues.specs.Queues.{IsNaming};
+ghost use Rattle.event_rules.specs.Due.{later};
+ghost use Rattle.cycle_rules.specs.Row.{times};
+ghost use Rattle.mca_fixed.specs.declared.limits.TheConstants.{MOST_ROWS};
+ghost use Rattle.engine_state.specs.State.{never};
+ghost use Rattle.engine_steps.specs.Links.{AllLinks, was_there, after, link_from, link_lacks};
+
+use crate::links::{Link, Links, links_at};
+use crate::rows::Rows;
+use cycle_rules::{Bound, Times};
+use machine_model::Machine;
+use mca_fixed::NoMemory;
+use std::alloc::Global;
+
+/// A body that is bound by a machine, and how often it is repeated.
+#[derive(Drop)]
+pub struct Plan<'a, M: Machine> {
+    machine: &'a M,
+    body: &'a [Bound],
+    iterations: usize,
+    // Where the reads of each instruction get their values.
+    links: Vec<Links>,
+    ghost some: { 0 < length body.now },
+    ghost few: { iterations * length body.now ≤ MOST_ROWS },
+    ghost size: { length links.items ≡ length body.now },
+    ghost named: { All (λ b. IsNaming (M.meaning machine.now) b) body.now },
+    ghost linked: { AllLinks (M.meaning machine.now) (map row_of body.now)
+        (length body.now) links.items },
+}
+
+// The links of all instructions of a body.
+fn all_links<M: Machine>(alloc: Global, machine: &M, body: &[Bound]) -> Result<Vec<Links>, NoMemory>
+    requires bound { AreBound (M.meaning machine.now) body.now }
+    requires few { length body.now ≤ MOST_ROWS }
+    ensures size { IfOk result (λ links. length links.items ≡ length body.now) }
+    ensures linked { IfOk result (λ links. AllLinks (M.meaning machine.now) (map row_of body.now)
+        (length body.now) links.items) }
+{
+    let mut links = Vec::with_capacity(alloc, body.len())?;
+    for place in 0..body.len() {
+        links.push(links_at(machine, body, place))?;
+    }
+    Ok(links)
+}
+
+// Whether a time that is recorded, or not yet, lies so many cycles back.
+fn has_passed(issue: u64, lead: u32, c: u64) -> bool
+    ensures { result ≡ (not (nat_eq issue never) && nat_le issue c && nat_le lead (c - issue)) }
+{
+    issue != u64::MAX && issue <= c && lead as u64 <= c - issue
+}
+
+// Whether row j can read in cycle `c` the value of the row that a link names, by the table of what is
+// recorded.
+fn was_there(table: &[Times], j: usize, link: Link, c: u64) -> bool
+    requires { j < length table.now }
+    ensures { result ≡ was_there table.now j c link }
+{
+    let back = link.back as usize;
+    if back == 0 {
+        return true;
+    }
+    if j < back {
+        return true;
+    }
+    has_passed(table[j - back].issue, link.lead, c)
+}
+
+// So many cycles after a time that is recorded, or not yet.
+fn after(issue: u64, lead: u32) -> Option<u64>
+    requires { (issue ≡ never → ⊥) → issue < 2 ^ 42 }
+    ensures { result ≡ after issue lead }
+{
+    if issue == u64::MAX {
+        return None;
+    }
+    Some(issue + lead as u64)
+}
+
+// The first cycle in which row j can read the value of the row that a link names, by the table of what is
+// recorded.
+fn read_from(table: &[Times], j: usize, link: Link) -> Option<u64>
+    requires row { j < length table.now }
+    requires low { (k : ℕ) → k < length table.now → ((times table.now k).issue ≡ never → ⊥) →
+        (times table.now k).issue < 2 ^ 42 }
+    ensures { result ≡ link_from table.now j link }
+{
+    let back = link.back as usize;
+    if back == 0 {
+        return Some(0);
+    }
+    if j < back {
+        return Some(0);
+    }
+    after(table[j - back].issue, link.lead)
+}
+
+// The later of two times that are known.
+fn later(a: Option<u64>, b: Option<u64>) -> Option<u64>
+    ensures { result ≡ later a b }
+{
+    match (a, b) {
+        (Some(a), Some(b)) => Some(a.max(b)),
+        _ => None,
+    }
+}
+
+// The issue of a row, or what is kept of it where it has not issued.
+fn not_before(issue: u64, wake: u64) -> u64
+    ensures { result ≡ (if nat_eq issue never then wake else issue) }
+{
+    if issue == u64::MAX { wake } else { issue }
+}
+
+// A cycle before which row j can't read the value of the row that a link names.
+fn lacks_by(table: &[Times], wake: &[u64], j: usize, link: Link) -> u64
+    requires row { j < length table.now }
+    requires wakes { j < length wake.now }
+    ensures { result ≤ link_lacks table.now wake.now j link }
+{
+    let back = link.back as usize;
+    if back == 0 {
+        return 0;
+    }
+    if j < back {
+        return 0;
+    }
+    not_before(table[j - back].issue, wake[j - back]).saturating_add(link.lead as u64)
+}
+
+// Whether both are told.
+fn both(first: bool, second: bool) -> bool
+    ensures { result ≡ (first && second) }
+{
+    first && second
+}
+
+impl<'a, M: Machine> Plan<'a, M> {
+    /// The rows of a body, so often repeated.
+    pub fn make(
+        alloc: Global,
+        machine: &'a M,
+        body: &'a [Bound],
+        iterations: u32,
+    ) -> Result<Plan<'a, M>, NoMemory>
+        requires bound { IsBoundBody (M.meaning machine.now) body.now }
+        requires some { 0 < length body.now }
+        requires iterations { 1 ≤ iterations }
+        requires rows { iterations * length body.now ≤ MOST_ROWS }
+        ensures machine { IfOk result (λ plan. plan.machine.now ≡ machine.entry.now) }
+        ensures body { IfOk result (λ plan. plan.body.now ≡ body.entry.now) }
+        ensures iterations { IfOk result (λ plan. plan.iterations ≡ iterations) }
+    {
+        let links = all_links(alloc, machine, body)?;
+        Ok(Plan {
+            machine,
+            body,
+            iterations: iterations as usize,
+            links,
+        })
+    }
+}
+
+impl<'a, M: Machine> Rows for Plan<'a, M> {
+    ghost use Rattle.cycle_rules.specs.Row.{input};
+
+    ghost input = { λ p. input (M.meaning p.machine.now) (map row_of p.body.now) p.iterations };
+
+    fn count(&self) -> usize {
+        self.iterations * self.body.len()
+    }
+
+    fn retire_width(&self) -> u32 {
+        self.machine.limits().retire
+    }
+
+    fn instruction(&self, j: usize) -> &Bound {
+        &self.body[j % self.body.len()]
+    }
+
+    fn uops(&self, j: usize) -> u16 {
+        let b = self.instruction(j);
+        let reorder = self.machine.limits().reorder as u16;
+        b.uops.min(reorder)
+    }
+
+    fn has_operands(&self, table: &[Times], j: usize, c: u64) -> bool {
+        let links = self.links[j % self.body.len()];
+        let first = was_there(table, j, links.first, c);
+        let second = was_there(table, j, links.second, c);
+        both(first, second)
+    }
+
+    fn ready_from(&self, table: &[Times], j: usize) -> Option<u64> {
+        let links = self.links[j % self.body.len()];
+        let first = read_from(table, j, links.first);
+        let second = read_from(table, j, links.second);
+        later(first, second)
+    }
+
+    fn lacks_until(&self, table: &[Times], wake: &[u64], j: usize) -> u64 {
+        let links = self.links[j % self.body.len()];
+        let first = lacks_by(table, wake, j, links.first);
+        let second = lacks_by(table, wake, j, links.second);
+        first.max(second)
+    }
+}

@@ -1,4 +1,0 @@
-pub mod Ranges
-pub mod Others
-pub mod Flight
-pub mod Links
