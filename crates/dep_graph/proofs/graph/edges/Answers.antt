@@ -1,0 +1,36 @@
+use Rattle.std.proofs.Common.{◌≡◌, map, sym, ◌∙◌, ap, subst}
+use Rattle.std.specs.Prelude.{IfOk}
+use Rattle.dep_graph.specs.RunGraph.{IsGraphOf}
+use Rattle.machine_model.specs.Meaning.{MachineMeaning}
+use Rattle.cycle_rules.specs.Bind.{row_of}
+use Rattle.cycle_rules.specs.Row.{Input, input, times}
+use Rattle.cycle_rules.proofs.BoundRows.{body_is_bound}
+use Rattle.dep_graph.specs.Walk.{IsSoundRun}
+use Rattle.dep_graph.proofs.Bodies.{sound_run}
+use Rattle.dep_graph.proofs.graph.edges.Goals as goal
+
+pub make-rows-requires-clause-bound : goal.make-rows-requires-clause-bound
+make-rows-requires-clause-bound g c = body_is_bound g.M.Machine.UNITS g.M.Mask.UnitMask.SIZE (g.M.Machine.meaning c.args.machine.now) c.args.body.now (g.met.M.Machine.valid c.args.machine.now) c.requires.bound
+
+pub graph_of-requires-clause-run : goal.graph_of-requires-clause-run
+graph_of-requires-clause-run g c =
+    let m : MachineMeaning = g.M.Machine.meaning c.args.machine.now in
+    let run : Input = input m (map row_of c.args.body.now) c.args.iterations in
+    let is : input (g.M.Machine.meaning c.make-rows.result.machine.now) (map row_of c.make-rows.result.body.now) c.make-rows.result.iterations ≡ run =
+    λ i. input (g.M.Machine.meaning (c.make-rows.ensures.machine i)) (map row_of (c.make-rows.ensures.body i)) (c.make-rows.ensures.iterations i) in
+    let table : c.make-rows.result.table.now ≡ c.args.run.now.rows = c.make-rows.ensures.table ∙ c.as_slice.ensures in
+    let sound : IsSoundRun run c.args.run.now.rows = sound_run g.M.Machine.UNITS g.M.Mask.UnitMask.SIZE m c.args.body.now c.args.iterations c.args.run.now.rows (g.met.M.Machine.valid c.args.machine.now) c.requires.bound c.requires.rows c.requires.run in
+    subst (λ x. IsSoundRun x c.make-rows.result.table.now) (sym is) (subst (λ x. IsSoundRun run x) (sym table) sound)
+
+pub graph_of-requires-clause-machine : goal.graph_of-requires-clause-machine
+graph_of-requires-clause-machine g c = ap g.M.Machine.meaning (sym c.make-rows.ensures.machine)
+
+pub returns-clause-waits : goal.returns-clause-waits
+returns-clause-waits g c =
+    let m : MachineMeaning = g.M.Machine.meaning c.args.machine.now in
+    let run : Input = input m (map row_of c.args.body.now) c.args.iterations in
+    let is : input (g.M.Machine.meaning c.make-rows.result.machine.now) (map row_of c.make-rows.result.body.now) c.make-rows.result.iterations ≡ run =
+    λ i. input (g.M.Machine.meaning (c.make-rows.ensures.machine i)) (map row_of (c.make-rows.ensures.body i)) (c.make-rows.ensures.iterations i) in
+    let table : c.make-rows.result.table.now ≡ c.args.run.now.rows = c.make-rows.ensures.table ∙ c.as_slice.ensures in
+    subst (λ x. IfOk c.graph_of.result (λ graph. IsGraphOf run (times x) graph)) table
+    (subst (λ x. IfOk c.graph_of.result (λ graph. IsGraphOf x (times c.make-rows.result.table.now) graph)) is c.graph_of.ensures.waits)

@@ -1,0 +1,12 @@
+pub mod Blamed
+pub mod Holders
+pub mod PassTimes
+pub mod Peaks
+pub mod RowCounts
+pub mod RunGraph
+pub mod Stalls
+pub mod Taking
+pub mod Thresholds
+pub mod Turns
+pub mod Walk
+pub mod Worked

@@ -1,0 +1,61 @@
+-- The greatest of the times of some rows, kept with the first row that reaches it; the last writers of registers; and what is kept of the waits of a row.
+use Rattle.std.specs.Prelude.{◌≡◌, ℕ, ◌<◌, List, [], ◌∷◌, length, slice_index_or, true, Option, Some, None, nat_lt, if◌then◌else◌}
+use Rattle.rv_isa.specs.declared.facts.Kind.TheVariants.{Load, Store, Barrier}
+use Rattle.cycle_rules.specs.CycleBound.{max_below}
+use Rattle.cycle_rules.specs.Row.{Input, Table}
+use Rattle.cycle_rules.specs.Issue.{producer, is_fenced}
+use Rattle.cycle_rules.specs.Waits.{register_wait, memory_wait}
+use Rattle.cycle_rules.specs.declared.bound.Source.{Source}
+use Rattle.dep_graph.specs.PassTimes.{read_time, reads_time, let_go}
+use Rattle.dep_graph.specs.Blamed.{register_blamed, memory_blamed}
+use Rattle.dep_graph.specs.declared.peak.Peak.{Peak}
+use Rattle.dep_graph.specs.declared.memory.Fences.{Fences}
+use Rattle.dep_graph.specs.declared.waits.Wait.{Wait}
+use Rattle.dep_graph.specs.declared.waits.Waits.{Waits}
+
+-- the row is the first that reaches a time
+pub record IsFirstAt (f : ℕ → ℕ) (n time row : ℕ) : Type 0 where
+  pub within : row < n
+  pub at : f row ≡ time
+  pub first : (k : ℕ) → k < row → f k < time
+
+-- the greatest of the times of the rows below n, with the first row that reaches it
+pub record IsPeak (f : ℕ → ℕ) (n : ℕ) (peak : Peak) : Type 0 where
+  pub time_is : peak.time ≡ max_below n f
+  pub row_is : 0 < peak.time → IsFirstAt f n peak.time peak.row
+
+-- of each register the last of the rows older than j that writes it
+pub record AreWriters (g : Input) (j : ℕ) (writers : List (Option ℕ)) : Type 0 where
+  pub size : length writers ≡ 32
+  pub last : (r : ℕ) → r < 32 → slice_index_or writers r None ≡ producer g j r
+
+-- the producer of the first read whose value is not there before a cycle
+abbrev pub late_in : Input → Table → ℕ → ℕ → List Source → Option ℕ
+late_in g t j time [] = None
+late_in g t j time (s ∷ rest) = if nat_lt (read_time g t j s) time then late_in g t j time rest else producer g j s.reg
+
+-- the time from which on all reads have their values, with the row that makes the first of those that are there last
+pub record IsLate (g : Input) (t : Table) (j : ℕ) (reads : List Source) (peak : Peak) : Type 0 where
+  pub time_is : peak.time ≡ reads_time g t j reads
+  pub row_is : 0 < peak.time → late_in g t j peak.time reads ≡ Some peak.row
+
+-- from when on the rows older than j let a load, a store and a barrier go, and a load that all of them are fenced off from
+pub record AreFences (g : Input) (t : Table) (j : ℕ) (fences : Fences) : Type 0 where
+  pub fenced : IsPeak (λ k. let_go Load (g.row k).kind g.machine.limits.no_alias true (t k).issue (t k).complete) j fences.fenced
+  pub load : IsPeak (λ k. let_go Load (g.row k).kind g.machine.limits.no_alias (is_fenced g k j) (t k).issue (t k).complete) j fences.load
+  pub store : IsPeak (λ k. let_go Store (g.row k).kind g.machine.limits.no_alias true (t k).issue (t k).complete) j fences.store
+  pub barrier : IsPeak (λ k. let_go Barrier (g.row k).kind g.machine.limits.no_alias true (t k).issue (t k).complete) j fences.barrier
+
+-- a wait, and the row that is blamed for it
+pub record IsWait (cycles : ℕ) (blamed : Option ℕ) (wait : Wait) : Type 0 where
+  pub is : wait.cycles ≡ cycles
+  pub row_is : 0 < wait.cycles → blamed ≡ Some wait.row
+
+-- the waits of row j for operands and for the order of memory
+pub record AreWaits (g : Input) (t : Table) (j : ℕ) (waits : Waits) : Type 0 where
+  pub register : IsWait (register_wait g t j) (register_blamed g t j) waits.register
+  pub memory : IsWait (memory_wait g t j) (memory_blamed g t j) waits.memory
+
+-- the waits of a row in a list of them
+abbrev pub waits_at : List Waits → ℕ → Waits
+waits_at waits j = slice_index_or waits j (record { register = record { cycles = 0; row = 0 }; memory = record { cycles = 0; row = 0 } })

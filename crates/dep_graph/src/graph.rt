@@ -1,0 +1,144 @@
+//! The waits of a run as edges.
+ghost use Rattle.std.specs.Prelude.{◌≡◌, ◌<◌, ◌≤◌, ◌*◌, ◌++◌, ℕ, List, length, map, slice_index, IfOk};
+ghost use Rattle.cycle_rules.specs.Bind.{row_of, IsBoundBody};
+ghost use Rattle.cycle_rules.specs.Row.{input, times};
+ghost use Rattle.cycle_rules.specs.Run.{IsRun};
+ghost use Rattle.critical_chain.specs.Graph.{IsGraph};
+ghost use Rattle.dep_graph.specs.Blamed.{edges_along};
+ghost use Rattle.dep_graph.specs.Peaks.{AreWaits, waits_at};
+ghost use Rattle.dep_graph.specs.RunGraph.{IsGraphOf, IsIssueOrder};
+ghost use Rattle.dep_graph.specs.Taking.{IsTaking, wait_edge};
+ghost use Rattle.dep_graph.specs.Walk.{IsSoundRun};
+
+use crate::holders::Taker;
+use crate::order::issue_order;
+use crate::rows::{Rows, Run};
+use crate::unit_waits::unit_wait;
+use crate::waits::{Wait, Waits, all_waits};
+use critical_chain::{Edge, EdgeKind, Graph};
+use cycle_rules::{Bound, Timeline};
+use machine_model::Machine;
+use mca_fixed::{Items, MOST_ROWS, NoMemory};
+use resource_units::Units;
+use std::alloc::Global;
+
+/// The waits of a run as a graph: the rows in issue order, and for each row that waited for an
+/// operand, for the order of memory or for a unit an edge from the row that is blamed, whose cost
+/// is the wait in cycles. The edges are sorted by the row that waited in issue order, then by kind.
+/// `run` is the run of the body on the machine, repeated `iterations` times, 1 or more; the body is
+/// bound by the machine and not empty, and the run has at most 1,048,576 rows. What is given can be
+/// passed to `critical`.
+///
+/// # Errors
+///
+/// Want of memory.
+pub fn edges<M: Machine>(
+    alloc: Global,
+    machine: &M,
+    body: &[Bound],
+    iterations: u32,
+    run: &Timeline,
+) -> Result<Graph, NoMemory>
+    requires bound { IsBoundBody (M.meaning machine.now) body.now }
+    requires some { 0 < length body.now }
+    requires iterations { 1 ≤ iterations }
+    requires rows { iterations * length body.now ≤ MOST_ROWS }
+    requires run { IsRun (M.meaning machine.now) (map row_of body.now) iterations run.now.rows }
+    ensures waits { IfOk result (λ graph. IsGraphOf
+        (input (M.meaning machine.now) (map row_of body.now) iterations)
+        (times run.now.rows) graph) }
+    ensures graph { IfOk result (λ graph. IsGraph graph) }
+{
+    let rows = Run::make(machine, body, iterations as usize, run.rows.as_slice());
+    graph_of(alloc, machine, &rows)
+}
+
+// The graph of the waits of some rows.
+fn graph_of<M: Machine, R: Rows>(alloc: Global, machine: &M, rows: &R) -> Result<Graph, NoMemory>
+    requires run { IsSoundRun (R.input rows.now) (R.table rows.now) }
+    requires machine { M.meaning machine.now ≡ (R.input rows.now).machine }
+    ensures waits { IfOk result (λ graph. IsGraphOf (R.input rows.now) (times (R.table rows.now))
+        graph) }
+    ensures graph { IfOk result (λ graph. IsGraph graph) }
+{
+    let order = issue_order(alloc, rows)?;
+    let waits = all_waits(alloc, rows)?;
+    let edges = all_edges(alloc, machine, rows, &order, &waits)?;
+    Ok(Graph {
+        rows: rows.count() as u32,
+        order: Items::from_vec(order),
+        edges: Items::from_vec(edges),
+    })
+}
+
+// Adds the edge of a wait of a row, where it waited.
+fn push_wait(edges: &mut Vec<Edge>, kind: EdgeKind, row: u32, wait: Wait) -> Result<(), NoMemory>
+    ensures { IfOk result (λ done. edges.new.items ≡ edges.old.items ++ wait_edge kind row wait) }
+{
+    if wait.cycles == 0 {
+        return Ok(());
+    }
+    edges.push(Edge {
+        from: wait.row,
+        to: row,
+        kind,
+        cost: wait.cycles,
+    })?;
+    Ok(())
+}
+
+// The edges of all waits, by the rows in issue order and what they waited for before units.
+fn all_edges<M: Machine, R: Rows>(
+    alloc: Global,
+    machine: &M,
+    rows: &R,
+    order: &[u32],
+    waits: &[Waits],
+) -> Result<Vec<Edge>, NoMemory>
+    requires run { IsSoundRun (R.input rows.now) (R.table rows.now) }
+    requires machine { M.meaning machine.now ≡ (R.input rows.now).machine }
+    requires order { IsIssueOrder (R.input rows.now) (times (R.table rows.now)) order.now }
+    requires size { length waits.now ≡ (R.input rows.now).rows }
+    requires waits { (j : ℕ) → j < (R.input rows.now).rows →
+        AreWaits (R.input rows.now) (times (R.table rows.now)) j (waits_at waits.now j) }
+    ensures { IfOk result (λ edges. edges.items ≡ edges_along (R.input rows.now)
+        (times (R.table rows.now)) order.now) }
+{
+    let mut units = Units::make(alloc, machine)?;
+    let mut last = vec![in alloc; Taker { place: 0, until: 0 }; M::UNITS]?;
+    edges_in_order(alloc, machine, rows, &mut units, &mut last, order, waits)
+}
+
+// The same, with what is kept of the units, of which none has been taken.
+fn edges_in_order<M: Machine, R: Rows>(
+    alloc: Global,
+    machine: &M,
+    rows: &R,
+    units: &mut Units<M>,
+    last: &mut [Taker],
+    order: &[u32],
+    waits: &[Waits],
+) -> Result<Vec<Edge>, NoMemory>
+    requires run { IsSoundRun (R.input rows.now) (R.table rows.now) }
+    requires machine { M.meaning machine.now ≡ (R.input rows.now).machine }
+    requires order { IsIssueOrder (R.input rows.now) (times (R.table rows.now)) order.now }
+    requires size { length waits.now ≡ (R.input rows.now).rows }
+    requires waits { (j : ℕ) → j < (R.input rows.now).rows →
+        AreWaits (R.input rows.now) (times (R.table rows.now)) j (waits_at waits.now j) }
+    requires taking { IsTaking M.meaning M.Mask.holds (R.input rows.now) (times (R.table rows.now))
+        order.now 0 0 units.old last.old }
+    ensures { IfOk result (λ edges. edges.items ≡ edges_along (R.input rows.now)
+        (times (R.table rows.now)) order.now) }
+{
+    let mut edges = Vec::new(alloc);
+    let mut taken = 0;
+    for i in 0..order.len() {
+        let row = order[i];
+        let before = waits[row as usize];
+        push_wait(&mut edges, EdgeKind::Register, row, before.register)?;
+        push_wait(&mut edges, EdgeKind::Memory, row, before.memory)?;
+        let wait = unit_wait(machine, rows, units, last, order, &mut taken, i, before);
+        push_wait(&mut edges, EdgeKind::Resource, row, wait)?;
+    }
+    Ok(edges)
+}

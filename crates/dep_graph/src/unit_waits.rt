@@ -1,0 +1,168 @@
+//! The waits of rows for units.
+ghost use Rattle.std.specs.Prelude.{◌≡◌, ◌<◌, ◌≤◌, ◌+◌, ◌-◌, ℕ, length, slice_index, ◌&&◌, nat_lt};
+ghost use Rattle.cycle_rules.specs.Row.{times, phase};
+ghost use Rattle.cycle_rules.specs.Seen.{key_at, comes_before};
+ghost use Rattle.cycle_rules.specs.Waits.{resource_wait};
+ghost use Rattle.critical_chain.specs.declared.graph.EdgeKind.{EdgeKind as EdgeKindOf};
+ghost use Rattle.critical_chain.specs.declared.graph.EdgeKind.TheVariants.{Resource};
+ghost use Rattle.resource_units.specs.Stand.{StandsFor, machine_of};
+ghost use Rattle.dep_graph.specs.Blamed.{edge_of, resource_blamed};
+ghost use Rattle.dep_graph.specs.Holders.{AreHolders, taken_along};
+ghost use Rattle.dep_graph.specs.Peaks.{AreWaits};
+ghost use Rattle.dep_graph.specs.RunGraph.{IsIssueOrder};
+ghost use Rattle.dep_graph.specs.Taking.{IsTaking, AreFirst, asks_after, wait_edge};
+ghost use Rattle.dep_graph.specs.Walk.{IsSoundRun};
+
+use crate::holders::{Taker, first_busy, last_holder, take_row};
+use crate::order::phase;
+use crate::rows::Rows;
+use crate::waits::{Wait, Waits, earliest};
+use machine_model::Machine;
+use resource_units::Units;
+
+// Whether a key of cycle, phase and row comes before another.
+#[tactic(auto, unfolding(cycle_rules::specs::Seen::comes_before))]
+fn precedes(c: u64, p: u8, k: u32, d: u64, q: u8, j: u32) -> bool
+    ensures { result ≡ comes_before (key_at c p k) (key_at d q j) }
+{
+    c < d || (c == d && (p < q || (p == q && k < j)))
+}
+
+// Whether there is a row at a place of the order, which issues before the one at another place
+// looks for units in vain.
+fn issues_before<R: Rows>(rows: &R, order: &[u32], q: usize, i: usize) -> bool
+    requires run { IsSoundRun (R.input rows.now) (R.table rows.now) }
+    requires order { IsIssueOrder (R.input rows.now) (times (R.table rows.now)) order.now }
+    requires place { i < length order.now }
+    requires some { 0 < (times (R.table rows.now) (slice_index order.now i)).issue }
+    ensures { result ≡ (nat_lt q (R.input rows.now).rows && asks_after
+        (R.input rows.now) (times (R.table rows.now)) (slice_index order.now q)
+        (slice_index order.now i)) }
+{
+    if q >= order.len() {
+        return false;
+    }
+    let k = order[q] as usize;
+    let j = order[i] as usize;
+    precedes(
+        rows.times(k).issue,
+        phase(rows.instruction(k).reserved),
+        k as u32,
+        rows.times(j).issue - 1,
+        phase(rows.instruction(j).reserved),
+        j as u32,
+    )
+}
+
+// Lets the rows take their units that issue before the one at a place of the order looks for units
+// in vain.
+fn take_before<M: Machine, R: Rows>(
+    rows: &R,
+    units: &mut Units<M>,
+    last: &mut [Taker],
+    order: &[u32],
+    taken: &mut usize,
+    i: usize,
+)
+    requires run { IsSoundRun (R.input rows.now) (R.table rows.now) }
+    requires order { IsIssueOrder (R.input rows.now) (times (R.table rows.now)) order.now }
+    requires place { i < length order.now }
+    requires some { 0 < (times (R.table rows.now) (slice_index order.now i)).issue }
+    requires taking { IsTaking M.meaning M.Mask.holds (R.input rows.now) (times (R.table rows.now))
+        order.now taken.old i units.old last.old }
+    ensures taking { IsTaking M.meaning M.Mask.holds (R.input rows.now) (times (R.table rows.now))
+        order.now taken.new i units.new last.new }
+    ensures first { AreFirst (R.input rows.now) (times (R.table rows.now)) order.now taken.new
+        (phase ((R.input rows.now).row (slice_index order.now i))) (slice_index order.now i)
+        ((times (R.table rows.now) (slice_index order.now i)).issue - 1) }
+{
+    while issues_before(rows, order, *taken, i) {
+        take_row(rows, units, last, order, *taken);
+        *taken += 1;
+    }
+}
+
+// The row that is blamed where row j finds no unit in the cycle before its issue, if there is one.
+fn blamed<M: Machine, R: Rows>(
+    machine: &M,
+    rows: &R,
+    units: &Units<M>,
+    last: &[Taker],
+    order: &[u32],
+    taken: usize,
+    j: usize,
+) -> Option<u32>
+    requires run { IsSoundRun (R.input rows.now) (R.table rows.now) }
+    requires order { IsIssueOrder (R.input rows.now) (times (R.table rows.now)) order.now }
+    requires row { j < (R.input rows.now).rows }
+    requires few { taken ≤ (R.input rows.now).rows }
+    requires some { 0 < (times (R.table rows.now) j).issue }
+    requires machine { M.meaning machine.now ≡ (R.input rows.now).machine }
+    requires of { machine_of M.meaning units.now ≡ (R.input rows.now).machine }
+    requires first { AreFirst (R.input rows.now) (times (R.table rows.now)) order.now taken
+        (phase ((R.input rows.now).row j)) j ((times (R.table rows.now) j).issue - 1) }
+    requires stands { StandsFor M.meaning M.Mask.holds ((times (R.table rows.now) j).issue - 1)
+        units.now (taken_along (R.input rows.now) (times (R.table rows.now)) order.now taken) }
+    requires holders { AreHolders (R.input rows.now) (times (R.table rows.now)) order.now taken
+        ((times (R.table rows.now) j).issue - 1) last.now }
+    ensures { result ≡ resource_blamed (R.input rows.now) (times (R.table rows.now)) j }
+{
+    let c = rows.times(j).issue - 1;
+    let Some(r) = first_busy(units, rows.instruction(j), c) else {
+        return None;
+    };
+    let Some(place) = last_holder(machine, last, r as usize, c) else {
+        return None;
+    };
+    Some(order[place as usize])
+}
+
+// A wait, where some row is blamed for it.
+fn wait_for(cycles: u64, row: Option<u32>) -> Wait
+    ensures { (kind : EdgeKindOf) (j : ℕ) → edge_of kind cycles j row ≡ wait_edge kind j result }
+{
+    match row {
+        Some(row) => Wait { cycles, row },
+        None => Wait { cycles: 0, row: 0 },
+    }
+}
+
+/// The wait of the row at a place of the order for units, and the row that is blamed for it.
+pub fn unit_wait<M: Machine, R: Rows>(
+    machine: &M,
+    rows: &R,
+    units: &mut Units<M>,
+    last: &mut [Taker],
+    order: &[u32],
+    taken: &mut usize,
+    i: usize,
+    waits: Waits,
+) -> Wait
+    requires run { IsSoundRun (R.input rows.now) (R.table rows.now) }
+    requires order { IsIssueOrder (R.input rows.now) (times (R.table rows.now)) order.now }
+    requires place { i < length order.now }
+    requires machine { M.meaning machine.now ≡ (R.input rows.now).machine }
+    requires waits { AreWaits (R.input rows.now) (times (R.table rows.now))
+        (slice_index order.now i) waits }
+    requires taking { IsTaking M.meaning M.Mask.holds (R.input rows.now) (times (R.table rows.now))
+        order.now taken.old i units.old last.old }
+    ensures taking { IsTaking M.meaning M.Mask.holds (R.input rows.now) (times (R.table rows.now))
+        order.now taken.new (i + 1) units.new last.new }
+    ensures wait { edge_of Resource (resource_wait (R.input rows.now) (times (R.table rows.now))
+        (slice_index order.now i)) (slice_index order.now i) (resource_blamed
+        (R.input rows.now) (times (R.table rows.now)) (slice_index order.now i))
+        ≡ wait_edge Resource (slice_index order.now i) result }
+{
+    let j = order[i] as usize;
+    let issue = rows.times(j).issue;
+    let ordered = earliest(rows, j) + waits.register.cycles + waits.memory.cycles;
+    if ordered == issue {
+        return wait_for(0, None);
+    }
+    take_before(rows, units, last, order, taken, i);
+    units.release_until(issue - 1);
+    wait_for(
+        issue - ordered,
+        blamed(machine, rows, units, last, order, *taken, j),
+    )
+}

@@ -1,0 +1,153 @@
+//! The rows of a run in program order, with what is kept of those before.
+ghost use Rattle.std.specs.Prelude.{◌≡◌, ◌<◌, ◌≤◌, ◌+◌, ◌^◌, ℕ, length, ◌||◌, nat_eq, nat_le};
+ghost use Rattle.cycle_rules.specs.Dispatch.{fits_file};
+ghost use Rattle.cycle_rules.specs.Row.{Input, Table, times};
+ghost use Rattle.dep_graph.specs.declared.window.Limited.TheVariants.{Registers};
+ghost use Rattle.dep_graph.specs.Stalls.{condition};
+ghost use Rattle.dep_graph.specs.Thresholds.{start};
+ghost use Rattle.dep_graph.specs.Walk.{IsSoundRun, IsWindow, IsFilled, AreFiles, IsWalk, stalls_of};
+
+use crate::counts::{Counts, Marks};
+use crate::fill::Fill;
+use crate::rows::Rows;
+use crate::window::{Limited, Window, uops};
+
+/// What the rows that have gone by take of all that is limited.
+#[derive(Drop)]
+pub struct Walk {
+    pub fill: Fill,
+    /// Of the reorder buffer.
+    pub entries: Window,
+    pub registers: Window,
+    /// Of the load queue.
+    pub loads: Window,
+    /// Of the store queue.
+    pub stores: Window,
+    /// Of each register file.
+    pub files: [Window; 8],
+}
+
+// Windows of eight register files.
+fn empty_files() -> [Window; 8]
+    ensures { (g : Input) → AreFiles g 0 result }
+{
+    [Window::empty(); 8]
+}
+
+/// The cycle in which row j is the next to dispatch: that of the dispatch before it.
+fn start_of<R: Rows>(rows: &R, j: usize) -> u64
+    requires { j ≤ length (R.table rows.now) }
+    ensures { result ≡ start (times (R.table rows.now)) j }
+{
+    if j == 0 {
+        return 0;
+    }
+    rows.times(j - 1).dispatch
+}
+
+impl Walk {
+    /// Before the first row.
+    pub fn empty() -> Walk
+        ensures { (g : Input) (t : Table) → IsWalk g t 0 result }
+    {
+        Walk {
+            fill: Fill::empty(),
+            entries: Window::empty(),
+            registers: Window::empty(),
+            loads: Window::empty(),
+            stores: Window::empty(),
+            files: empty_files(),
+        }
+    }
+
+    /// Lets row j go by, and gives its stalls.
+    pub fn pass<R: Rows>(&mut self, rows: &R, j: usize) -> Counts
+        requires run { IsSoundRun (R.input rows.now) (R.table rows.now) }
+        requires row { j < (R.input rows.now).rows }
+        requires walk { IsWalk (R.input rows.now) (times (R.table rows.now)) j self.old }
+        ensures walk { IsWalk (R.input rows.now) (times (R.table rows.now)) (j + 1) self.new }
+        ensures counts { result ≡ stalls_of (R.input rows.now) (times (R.table rows.now)) j }
+    {
+        let limits = rows.limits();
+        let start = start_of(rows, j);
+        let end = rows.times(j).dispatch;
+        let reserved = rows.instruction(j).reserved;
+        let marks = Marks {
+            group: fill_group(&mut self.fill, rows, j, start, end),
+            reorder: self.entries.take(rows, Limited::Entries, limits.reorder, j),
+            registers: take_registers(&mut self.registers, &mut self.files, rows, j),
+            loads: self.loads.take(rows, Limited::Loads, limits.loads, j),
+            stores: self.stores.take(rows, Limited::Stores, limits.stores, j),
+        };
+        Counts::of_row(start, &marks, end, reserved)
+    }
+}
+
+// Goes on to the dispatch of row j, and gives the cycle from which on it found place in a group.
+fn fill_group<R: Rows>(fill: &mut Fill, rows: &R, j: usize, begin: u64, end: u64) -> u64
+    requires run { IsSoundRun (R.input rows.now) (R.table rows.now) }
+    requires row { j < (R.input rows.now).rows }
+    requires begin { begin ≡ start (times (R.table rows.now)) j }
+    requires end { end ≡ (times (R.table rows.now) j).dispatch }
+    requires fill { IsFilled (R.input rows.now) (times (R.table rows.now)) j begin fill.old }
+    ensures fill { IsFilled (R.input rows.now) (times (R.table rows.now)) (j + 1) end fill.new }
+    ensures from { (c : ℕ) → begin ≤ c →
+        condition (R.input rows.now) (times (R.table rows.now)) j c 0 ≡ nat_le result c }
+{
+    let b = rows.instruction(j);
+    let width = rows.limits().width;
+    let uops = uops(rows, j);
+    let from = fill.place_from(begin, width, uops, b.begins_group);
+    fill.pass(width, end - begin);
+    fill.join(uops, b.ends_group);
+    from
+}
+
+// Takes what row j takes of the registers, and of their file, and gives the cycle from which on it
+// found both.
+fn take_registers<R: Rows>(
+    registers: &mut Window,
+    files: &mut [Window; 8],
+    rows: &R,
+    j: usize,
+) -> u64
+    requires run { IsSoundRun (R.input rows.now) (R.table rows.now) }
+    requires row { j < (R.input rows.now).rows }
+    requires window { IsWindow (R.input rows.now) Registers
+        (R.input rows.now).machine.limits.registers j registers.old }
+    requires files { AreFiles (R.input rows.now) j files.old }
+    ensures window { IsWindow (R.input rows.now) Registers
+        (R.input rows.now).machine.limits.registers (j + 1) registers.new }
+    ensures files { AreFiles (R.input rows.now) (j + 1) files.new }
+    ensures from { (c : ℕ) → start (times (R.table rows.now)) j ≤ c →
+        condition (R.input rows.now) (times (R.table rows.now)) j c 2 ≡ nat_le result c }
+{
+    let bound = rows.limits().registers;
+    let from = registers.take(rows, Limited::Registers, bound, j);
+    from.max(take_file(files, rows, j))
+}
+
+// Takes what row j takes of a register file, and gives the cycle from which on it found that.
+fn take_file<R: Rows>(files: &mut [Window; 8], rows: &R, j: usize) -> u64
+    requires run { IsSoundRun (R.input rows.now) (R.table rows.now) }
+    requires row { j < (R.input rows.now).rows }
+    requires files { AreFiles (R.input rows.now) j files.old }
+    ensures files { AreFiles (R.input rows.now) (j + 1) files.new }
+    ensures from { (c : ℕ) → (nat_eq ((R.input rows.now).row j).rd 0
+        || fits_file (R.input rows.now) (times (R.table rows.now)) j c
+        ((R.input rows.now).machine.file_of ((R.input rows.now).row j).rd)) ≡ nat_le result c }
+{
+    let rd = rows.instruction(j).rd;
+    if rd.number() == 0 {
+        return 0;
+    }
+    let Some(share) = rows.file_of(rd) else {
+        return 0;
+    };
+    let f = share.file as usize;
+    let bound = rows.file_size(f);
+    let mut window = files[f];
+    let from = window.take(rows, Limited::FileRegisters(share.file), bound, j);
+    files[f] = window;
+    from
+}
