@@ -70,8 +70,6 @@ pub enum AsmKind {
     RegionTooLong,
     /// A region does not end.
     NeverEnded,
-    /// The text asks for what is not built yet.
-    NotYet,
     /// There was no memory.
     Memory,
 }
@@ -98,7 +96,6 @@ impl AsmKind {
             AsmKind::NoInstruction => "NoInstruction",
             AsmKind::RegionTooLong => "RegionTooLong",
             AsmKind::NeverEnded => "NeverEnded",
-            AsmKind::NotYet => "NotYet",
             AsmKind::Memory => "Memory",
         }
     }

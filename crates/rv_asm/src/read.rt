@@ -84,7 +84,7 @@ fn no_memory() -> AsmRefusal
 /// Reads a text of at most 8,388,608 bytes: gives its program, or the fault that comes first, with its
 /// line from 1. The faults of a line are answered in this order: a line that is too long, a byte that
 /// stands in no text, the statements and the comments that begin there from left to right, a comment that
-/// is never closed. Never answers the kinds of regions or `NotYet`.
+/// is never closed. Never answers the kinds of regions.
 pub fn read_asm(alloc: Global, text: &[u8]) -> Result<AsmText, AsmRefusal>
     requires { length text.now ≤ MOST_TEXT_BYTES }
     // What is read is the text's program.
