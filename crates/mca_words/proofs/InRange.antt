@@ -8,25 +8,26 @@ use Rattle.std.specs.declared.result.Result.{Result}
 use Rattle.std.proofs.lemmas.Bool.Decides.{nat_tests}
 use Rattle.mca_words.specs.Answer.{answer_from, answer_of, end_answer, end_fault, then_on}
 use Rattle.mca_words.specs.InRange.{AreInRange}
-use Rattle.mca_words.specs.Options.{setting_of, number_or, options_of}
+use Rattle.mca_words.specs.Options.{setting_of, number_or, number_or_none, options_of}
 use Rattle.mca_words.specs.Pieces.{Piece, pieces_of, is_option, name_of, given_value}
-use Rattle.mca_words.specs.Settings.{is_input, stands, has_other_machine, named, option_set, input_set, set_by}
+use Rattle.mca_words.specs.Settings.{is_input, stands, has_other_machine, is_beside_load, named, option_set, input_set, set_by}
 use Rattle.mca_words.specs.Table.{form_of}
 use Rattle.mca_words.specs.Values.{is_machine, is_number, number_of, truth_of, machine_value, number_value, truth_value, value_of_text, value_of}
 use Rattle.mca_words.specs.declared.fault.WordFault.{WordFault}
 use Rattle.mca_words.specs.declared.fault.WordKind.{WordKind}
-use Rattle.mca_words.specs.declared.fault.WordKind.TheVariants.{BadNumber, OutOfRange, UnknownMachine, Repeated, TwoMachines, TooManyInputs}
+use Rattle.mca_words.specs.declared.fault.WordKind.TheVariants.{BadNumber, OutOfRange, UnknownMachine, Repeated, TwoMachines, NotTogether, TooManyInputs}
 use Rattle.mca_words.specs.declared.options.Options.{Options}
 use Rattle.mca_words.specs.declared.settings.Setting.{Setting}
 use Rattle.mca_words.specs.declared.settings.Setting.TheVariants.{Input, Named}
 use Rattle.mca_words.specs.declared.table.ValueForm.{ValueForm}
-use Rattle.mca_words.specs.declared.table.ValueForm.TheVariants.{FileName, MachineName, NumberUpTo, TruthValue}
+use Rattle.mca_words.specs.declared.table.ValueForm.TheVariants.{FileName, MachineName, NumberUpTo, OptionalNumber, TruthValue}
 use Rattle.mca_words.specs.declared.value.Value.{Value}
 use Rattle.mca_words.specs.declared.value.Value.TheVariants.{Text, Number, Truth}
 
 -- the greatest number of a form
 abbrev most_of : Option ValueForm → ℕ
 most_of (Some (NumberUpTo most default)) = most
+most_of (Some (OptionalNumber most)) = most
 most_of _ = 0
 
 -- the value is no number above this one
@@ -71,6 +72,7 @@ from_text_within : (form : ValueForm) (text : List ℕ) (value : Value) → valu
 from_text_within FileName text value e = text_within 0 text value e
 from_text_within MachineName text value e = machine_within 0 text value e
 from_text_within (NumberUpTo most default) text value e = number_within most text value e
+from_text_within (OptionalNumber most) text value e = number_within most text value e
 from_text_within (TruthValue default) text value e = truth_within 0 (truth_of text) value e
 
 value_within : (form : ValueForm) (text : Option (List ℕ)) (value : Value) → value_of form text ≡ Ok value → IsAtMost (most_of (Some form)) value
@@ -90,11 +92,12 @@ one_within most name value within other = go (pointwise nat_eq name other) refl
 
 named_within : (most : List ℕ → ℕ) (settings : List Setting) (name : List ℕ) (r : Result Value WordKind) (x : Setting) → ((value : Value) → r ≡ Ok value → IsAtMost (most name) value) → named settings name r ≡ Ok x → AreWithin most (x ∷ [])
 named_within most settings name (Err kind) x within e = absurd cc
-named_within most settings name (Ok value) x within e = go (has_other_machine settings name) e
+named_within most settings name (Ok value) x within e = go (has_other_machine settings name) (is_beside_load settings name) e
   where
-    go : (b : Bool) → ◌≡◌ {A = Result Setting WordKind} (cond b (Err TwoMachines) (Ok (Named name value))) (Ok x) → AreWithin most (x ∷ [])
-    go true is = absurd cc
-    go false is =
+    go : (b c : Bool) → ◌≡◌ {A = Result Setting WordKind} (cond b (Err TwoMachines) (cond c (Err NotTogether) (Ok (Named name value)))) (Ok x) → AreWithin most (x ∷ [])
+    go true c is = absurd cc
+    go false true is = absurd cc
+    go false false is =
         let same : Named name value ≡ x = cc in
         subst (λ y. AreWithin most (y ∷ [])) same (one_within most name value (within value refl))
 
@@ -107,11 +110,12 @@ option_within most settings name text (Some form) x is e = go (stands settings n
     go false e = named_within most settings name (value_of form text) x (λ value gives. subst (λ m. IsAtMost m value) (sym is) (value_within form text value gives)) e
 
 input_within : (most : List ℕ → ℕ) (settings : List Setting) (text : List ℕ) (x : Setting) → input_set settings text ≡ Ok x → AreWithin most (x ∷ [])
-input_within most settings text x e = go (list_any is_input settings) e
+input_within most settings text x e = go (stands settings (codes "load")) (list_any is_input settings) e
   where
-    go : (b : Bool) → ◌≡◌ {A = Result Setting WordKind} (cond b (Err TooManyInputs) (Ok (Input text))) (Ok x) → AreWithin most (x ∷ [])
-    go true is = absurd cc
-    go false is =
+    go : (b c : Bool) → ◌≡◌ {A = Result Setting WordKind} (cond b (Err NotTogether) (cond c (Err TooManyInputs) (Ok (Input text)))) (Ok x) → AreWithin most (x ∷ [])
+    go true c is = absurd cc
+    go false true is = absurd cc
+    go false false is =
         let same : Input text ≡ x = cc in
         let none : AreWithin most (Input text ∷ []) = λ name. omega arith in
         subst (λ y. AreWithin most (y ∷ [])) same none
@@ -149,6 +153,14 @@ set_within most default (Some (Text text)) low within = low
 set_within most default (Some (Number number)) low within = within
 set_within most default (Some (Truth truth)) low within = low
 
+given_within : (most : ℕ) (o : Option Value) → number_or 0 o ≤ most → (seed : ℕ) → number_or_none o ≡ Some seed → seed ≤ most
+given_within most (Some (Number number)) within seed e =
+    let same : number ≡ seed = cc in
+    subst (λ n. n ≤ most) same within
+given_within most None within seed e = absurd cc
+given_within most (Some (Text text)) within seed e = absurd cc
+given_within most (Some (Truth truth)) within seed e = absurd cc
+
 options_within : (settings : List Setting) → AreWithin greatest settings → AreInRange (options_of settings)
 unfolding greatest
 options_within settings within = record {
@@ -159,6 +171,7 @@ options_within settings within = record {
   squeue = set_within 4096 0 (setting_of settings (codes "squeue")) (omega arith) (within (codes "squeue"));
   timeline_max_iterations = set_within 1048576 10 (setting_of settings (codes "timeline-max-iterations")) (omega arith) (within (codes "timeline-max-iterations"));
   timeline_max_cycles = set_within 1000000 80 (setting_of settings (codes "timeline-max-cycles")) (omega arith) (within (codes "timeline-max-cycles"));
+  load = given_within 4294967295 (setting_of settings (codes "load")) (within (codes "load"));
 }
 
 end_in_range : (number : ℕ) (settings : List Setting) (kind : Option WordKind) (o : Options) → AreWithin greatest settings → end_answer number settings kind ≡ Ok o → AreInRange o

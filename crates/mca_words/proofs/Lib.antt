@@ -1,4 +1,5 @@
 pub mod InRange
+pub mod LoadAlone
 pub mod Numbers
 pub mod OneAnswer
 pub mod Steps

@@ -17,7 +17,8 @@ fault number kind = record { word = number; kind = kind }
 
 -- the fault that shows only after all words
 abbrev pub end_fault : List Setting → Option WordKind
-end_fault settings = if not (list_any is_input settings) then Some NoInput
+end_fault settings = if stands settings (codes "load") then None
+    else if not (list_any is_input settings) then Some NoInput
     else if not (stands settings (codes "table")) && not (stands settings (codes "mcpu")) then Some NoMachine
     else None
 

@@ -1,5 +1,5 @@
 -- The numbers that options hold are those of their ranges.
-use Rattle.std.specs.Prelude.{◌≤◌}
+use Rattle.std.specs.Prelude.{◌≡◌, ℕ, ◌≤◌, Some}
 use Rattle.mca_fixed.specs.declared.limits.TheConstants.{MOST_ROWS}
 use Rattle.mca_words.specs.declared.options.Options.{Options}
 
@@ -11,3 +11,4 @@ pub record AreInRange (o : Options) : Type 0 where
   pub squeue : o.squeue ≤ 4096
   pub timeline_max_iterations : o.timeline_max_iterations ≤ MOST_ROWS
   pub timeline_max_cycles : o.timeline_max_cycles ≤ 1000000
+  pub load : (seed : ℕ) → o.load ≡ Some seed → seed ≤ 4294967295

@@ -13,10 +13,10 @@ kind_name kind.BadNumber = codes "BadNumber"
 kind_name kind.OutOfRange = codes "OutOfRange"
 kind_name kind.UnknownMachine = codes "UnknownMachine"
 kind_name kind.TwoMachines = codes "TwoMachines"
+kind_name kind.NotTogether = codes "NotTogether"
 kind_name kind.TooManyInputs = codes "TooManyInputs"
 kind_name kind.NoInput = codes "NoInput"
 kind_name kind.NoMachine = codes "NoMachine"
-kind_name kind.NotYet = codes "NotYet"
 kind_name kind.Memory = codes "Memory"
 
 -- a fault is printed with the number of its word

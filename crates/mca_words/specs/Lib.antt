@@ -6,6 +6,5 @@ pub mod Options
 pub mod Pieces
 pub mod Settings
 pub mod Table
-pub mod Unbuilt
 pub mod Values
 pub mod InRange

@@ -28,6 +28,10 @@ abbrev pub number_or : ℕ → Option Value → ℕ
 number_or default (Some (Number number)) = number
 number_or default _ = default
 
+abbrev pub number_or_none : Option Value → Option ℕ
+number_or_none (Some (Number number)) = Some number
+number_or_none _ = None
+
 abbrev pub truth_or : Bool → Option Value → Bool
 truth_or default (Some (Truth truth)) = truth
 truth_or default _ = default
@@ -37,6 +41,9 @@ text_set settings name = text_or_empty (setting_of settings name)
 
 abbrev pub number_set : List Setting → List ℕ → ℕ
 number_set settings name = number_or (default_number (form_of name)) (setting_of settings name)
+
+abbrev pub number_given : List Setting → List ℕ → Option ℕ
+number_given settings name = number_or_none (setting_of settings name)
 
 abbrev pub truth_set : List Setting → List ℕ → Bool
 truth_set settings name = truth_or (default_truth (form_of name)) (setting_of settings name)
@@ -58,5 +65,10 @@ options_of settings = record {
   timeline_max_iterations = number_set settings (codes "timeline-max-iterations");
   timeline_max_cycles = number_set settings (codes "timeline-max-cycles");
   bottleneck_analysis = truth_set settings (codes "bottleneck-analysis");
+  load = number_given settings (codes "load");
   input = input_of settings;
 }
+
+-- what `-load` gives: this number, each other option's default, and no input
+abbrev pub load_options : ℕ → Options
+load_options seed = options_of (Named (codes "load") (Number seed) ∷ [])

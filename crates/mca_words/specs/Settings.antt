@@ -1,11 +1,11 @@
 -- Models what the pieces set, one after the other, and the first fault of a piece after those before it.
-use Rattle.std.specs.Prelude.{List, ℕ, Bool, true, false, ◌&&◌, ◌||◌, codes, nat_eq, Some, None, Ok, Err, if◌then◌else◌}
+use Rattle.std.specs.Prelude.{List, ℕ, Bool, true, false, ◌&&◌, ◌||◌, not, codes, length, nat_eq, Some, None, Ok, Err, if◌then◌else◌}
 use Rattle.std.specs.Cmp.Lexicographic.{pointwise}
 use Rattle.std.specs.List.{list_any}
 use Rattle.std.specs.declared.option.Option.{Option}
 use Rattle.std.specs.declared.result.Result.{Result}
 use Rattle.mca_words.specs.declared.fault.WordKind.{WordKind}
-use Rattle.mca_words.specs.declared.fault.WordKind.TheVariants.{UnknownOption, Repeated, TwoMachines, TooManyInputs}
+use Rattle.mca_words.specs.declared.fault.WordKind.TheVariants.{UnknownOption, Repeated, TwoMachines, NotTogether, TooManyInputs}
 use Rattle.mca_words.specs.declared.settings.Setting.{Setting}
 use Rattle.mca_words.specs.declared.settings.Setting.TheVariants.{Input, Named}
 use Rattle.mca_words.specs.declared.table.ValueForm.{ValueForm}
@@ -31,9 +31,16 @@ abbrev pub has_other_machine : List Setting → List ℕ → Bool
 has_other_machine settings name = (pointwise nat_eq name (codes "table") && stands settings (codes "mcpu"))
     || (pointwise nat_eq name (codes "mcpu") && stands settings (codes "table"))
 
+-- `-load` stands, or is to stand beside what was set
+abbrev pub is_beside_load : List Setting → List ℕ → Bool
+is_beside_load settings name = stands settings (codes "load")
+    || (pointwise nat_eq name (codes "load") && not (nat_eq (length settings) 0))
+
 abbrev pub named : List Setting → List ℕ → Result Value WordKind → Result Setting WordKind
 named settings name (Err kind) = Err kind
-named settings name (Ok value) = if has_other_machine settings name then Err TwoMachines else Ok (Named name value)
+named settings name (Ok value) = if has_other_machine settings name then Err TwoMachines
+    else if is_beside_load settings name then Err NotTogether
+    else Ok (Named name value)
 
 -- what an option sets, or its first fault
 abbrev pub option_set : List Setting → List ℕ → Option (List ℕ) → Option ValueForm → Result Setting WordKind
@@ -41,7 +48,9 @@ option_set settings name value None = Err UnknownOption
 option_set settings name value (Some form) = if stands settings name then Err Repeated else named settings name (value_of form value)
 
 abbrev pub input_set : List Setting → List ℕ → Result Setting WordKind
-input_set settings text = if list_any is_input settings then Err TooManyInputs else Ok (Input text)
+input_set settings text = if stands settings (codes "load") then Err NotTogether
+    else if list_any is_input settings then Err TooManyInputs
+    else Ok (Input text)
 
 -- what a piece sets after these settings, or its first fault in the order of the faults
 abbrev pub set_by : List Setting → Piece → Result Setting WordKind

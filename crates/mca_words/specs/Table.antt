@@ -5,7 +5,7 @@ use Rattle.std.specs.declared.option.Option.{Option}
 use Rattle.mca_fixed.specs.declared.limits.TheConstants.{MOST_ROWS}
 use Rattle.mca_words.specs.declared.table.ValueForm.{ValueForm}
 use Rattle.mca_words.specs.declared.table.Row.{Row}
-use Rattle.mca_words.specs.declared.table.ValueForm.TheVariants.{FileName, MachineName, NumberUpTo, TruthValue}
+use Rattle.mca_words.specs.declared.table.ValueForm.TheVariants.{FileName, MachineName, NumberUpTo, OptionalNumber, TruthValue}
 
 -- an option: its name without dashes, and the form of its value
 pub record OptionRow : Type 0 where
@@ -31,6 +31,7 @@ option_table = row (codes "table") FileName
     ∷ row (codes "timeline-max-iterations") (NumberUpTo MOST_ROWS 10)
     ∷ row (codes "timeline-max-cycles") (NumberUpTo 1000000 80)
     ∷ row (codes "bottleneck-analysis") (TruthValue false)
+    ∷ row (codes "load") (OptionalNumber 4294967295)
     ∷ []
 
 -- a row of the table in code

@@ -8,7 +8,7 @@ use Rattle.std.specs.declared.result.Result.{Result}
 use Rattle.mca_words.specs.declared.fault.WordKind.{WordKind}
 use Rattle.mca_words.specs.declared.fault.WordKind.TheVariants.{MissingValue, BadNumber, OutOfRange, UnknownMachine}
 use Rattle.mca_words.specs.declared.table.ValueForm.{ValueForm}
-use Rattle.mca_words.specs.declared.table.ValueForm.TheVariants.{FileName, MachineName, NumberUpTo, TruthValue}
+use Rattle.mca_words.specs.declared.table.ValueForm.TheVariants.{FileName, MachineName, NumberUpTo, OptionalNumber, TruthValue}
 use Rattle.mca_words.specs.declared.value.Value.{Value}
 use Rattle.mca_words.specs.declared.value.Value.TheVariants.{Text, Number, Truth}
 
@@ -53,6 +53,7 @@ abbrev pub value_of_text : ValueForm → List ℕ → Result Value WordKind
 value_of_text FileName text = Ok (Text text)
 value_of_text MachineName text = machine_value text
 value_of_text (NumberUpTo most default) text = number_value most text
+value_of_text (OptionalNumber most) text = number_value most text
 value_of_text (TruthValue default) text = truth_value (truth_of text)
 
 -- the value of an option, or the first fault of its value; a truth without a value is true

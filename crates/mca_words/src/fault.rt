@@ -25,14 +25,14 @@ pub enum WordKind {
     UnknownMachine,
     /// Both `-table` and `-mcpu` stand.
     TwoMachines,
+    /// `-load` and another option, or `-load` and an input, were both read.
+    NotTogether,
     /// A second word is no option.
     TooManyInputs,
-    /// After all words, none was an input.
+    /// After all words, none was an input, and `-load` did not stand.
     NoInput,
-    /// After all words, neither `-table` nor `-mcpu` stood.
+    /// After all words, none of `-table`, `-mcpu` and `-load` stood.
     NoMachine,
-    /// An option is not built yet. `read_words` never answers it.
-    NotYet,
     /// No memory was to be had.
     Memory,
 }
@@ -50,10 +50,10 @@ impl WordKind {
             WordKind::OutOfRange => "OutOfRange",
             WordKind::UnknownMachine => "UnknownMachine",
             WordKind::TwoMachines => "TwoMachines",
+            WordKind::NotTogether => "NotTogether",
             WordKind::TooManyInputs => "TooManyInputs",
             WordKind::NoInput => "NoInput",
             WordKind::NoMachine => "NoMachine",
-            WordKind::NotYet => "NotYet",
             WordKind::Memory => "Memory",
         }
     }

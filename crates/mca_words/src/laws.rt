@@ -1,10 +1,9 @@
 //! What holds of the answers to a command line, apart from how it is read.
-ghost use Rattle.std.specs.Prelude.{◌≡◌, List, [], ℕ, Result, Ok, false};
+ghost use Rattle.std.specs.Prelude.{◌≡◌, List, ℕ, Result, Ok, Some};
 ghost use Rattle.mca_words.specs.Answer.{answer_of};
 ghost use Rattle.mca_words.specs.FirstFault.{IsAnswer};
 ghost use Rattle.mca_words.specs.InRange.{AreInRange};
-ghost use Rattle.mca_words.specs.Options.{options_of};
-ghost use Rattle.mca_words.specs.Unbuilt.{is_unbuilt};
+ghost use Rattle.mca_words.specs.Options.{load_options};
 ghost use Rattle.mca_words.specs.declared.fault.WordFault.{WordFault as FaultOf};
 ghost use Rattle.mca_words.specs.declared.options.Options.{Options as OptionsOf};
 
@@ -15,14 +14,15 @@ pub fn one_answer()
     ensures one { (words : List (List ℕ)) (a b : Result OptionsOf FaultOf) → IsAnswer words a → IsAnswer words b → a ≡ b }
 {}
 
-/// A law about the definitions: whatever the words are, the numbers of the options that they give are
-/// in the ranges of `Options`.
+/// A law about the definitions: whatever the words are, the numbers of the options that they give
+/// are in the ranges of `Options`.
 pub fn options_in_range()
     ensures { (words : List (List ℕ)) (o : OptionsOf) → answer_of words ≡ Ok o → AreInRange o }
 {}
 
-/// A law about the definitions: where no option is given, none asks for what is not built.
-#[tactic(auto, unfolding(crate::specs::Unbuilt::is_unbuilt))]
-pub fn defaults_are_built()
-    ensures { is_unbuilt (options_of []) ≡ false }
+/// A law about the definitions: where `-load` was given, every other option has its default, and
+/// there is no input.
+pub fn load_stands_alone()
+    ensures { (words : List (List ℕ)) (o : OptionsOf) (seed : ℕ) →
+        answer_of words ≡ Ok o → o.load ≡ Some seed → o ≡ load_options seed }
 {}

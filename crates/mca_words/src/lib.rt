@@ -11,12 +11,10 @@ mod options;
 mod read;
 mod settings;
 mod table;
-mod unbuilt;
 mod value;
 mod word;
 
 pub use fault::{WordFault, WordKind};
-pub use laws::{defaults_are_built, one_answer, options_in_range};
+pub use laws::{load_stands_alone, one_answer, options_in_range};
 pub use options::Options;
 pub use read::read_words;
-pub use unbuilt::is_unbuilt;

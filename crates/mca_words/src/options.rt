@@ -35,6 +35,9 @@ pub struct Options {
     pub timeline_max_cycles: u32,
     /// Whether the view of the bottlenecks is printed.
     pub bottleneck_analysis: bool,
-    /// The name of the file with the assembly.
+    /// The number from which a program is made in place of reading one, where it was given: 0 to
+    /// 4,294,967,295. Then every other option has its default.
+    pub load: Option<u32>,
+    /// The name of the file with the assembly; empty where `load` was given.
     pub input: Text,
 }

@@ -30,6 +30,7 @@ fn options_of(alloc: Global, settings: &[Setting]) -> Result<Options, NoMemory>
         timeline_max_iterations: settings::number_set(settings, b"timeline-max-iterations"),
         timeline_max_cycles: settings::number_set(settings, b"timeline-max-cycles"),
         bottleneck_analysis: settings::truth_set(settings, b"bottleneck-analysis"),
+        load: settings::number_given(settings, b"load"),
         input: settings::input_of(alloc, settings)?,
     })
 }
@@ -38,6 +39,9 @@ fn options_of(alloc: Global, settings: &[Setting]) -> Result<Options, NoMemory>
 fn end_fault(settings: &[Setting]) -> Option<WordKind>
     ensures { result ≡ end_fault settings.now }
 {
+    if settings::stands(settings, b"load") {
+        return None;
+    }
     if !settings::has_input(settings) {
         return Some(WordKind::NoInput);
     }

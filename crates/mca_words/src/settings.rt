@@ -4,9 +4,9 @@ ghost use Rattle.std.specs.Cmp.Lexicographic.{pointwise};
 ghost use Rattle.std.specs.List.{list_any};
 ghost use Rattle.std.specs.Option.{option_copied};
 ghost use Rattle.mca_words.specs.Gives.{Gives};
-ghost use Rattle.mca_words.specs.Options.{setting_of, input_of, text_set, number_set, truth_set};
+ghost use Rattle.mca_words.specs.Options.{setting_of, input_of, text_set, number_set, number_given, truth_set};
 ghost use Rattle.mca_words.specs.Pieces.{piece};
-ghost use Rattle.mca_words.specs.Settings.{is_input, is_named, stands, has_other_machine, named, option_set, input_set, set_by};
+ghost use Rattle.mca_words.specs.Settings.{is_input, is_named, stands, has_other_machine, is_beside_load, named, option_set, input_set, set_by};
 
 use crate::fault::WordKind;
 use crate::table::{self, ValueForm};
@@ -70,6 +70,14 @@ fn has_other_machine(settings: &[Setting], name: &[u8]) -> bool
         || stands_beside(settings, name, b"mcpu", b"table")
 }
 
+// Whether `-load` was set, or the option is `-load` and something was set.
+fn is_beside_load(settings: &[Setting], name: &[u8]) -> bool
+    ensures { result ≡ is_beside_load settings.now name.now }
+{
+    let load: &[u8] = b"load";
+    stands(settings, load) || (name == load && !settings.is_empty())
+}
+
 fn named(
     alloc: Global,
     settings: &[Setting],
@@ -80,6 +88,9 @@ fn named(
 {
     if has_other_machine(settings, name) {
         return Err(WordKind::TwoMachines);
+    }
+    if is_beside_load(settings, name) {
+        return Err(WordKind::NotTogether);
     }
     Ok(Setting::Named(Name::from_bytes(alloc, name)?, value))
 }
@@ -106,6 +117,9 @@ fn option_set(
 fn input_set(alloc: Global, settings: &[Setting], text: &str) -> Result<Setting, WordKind>
     ensures { Gives (input_set settings.now text.now) result }
 {
+    if stands(settings, b"load") {
+        return Err(WordKind::NotTogether);
+    }
     if has_input(settings) {
         return Err(WordKind::TooManyInputs);
     }
@@ -161,6 +175,16 @@ pub(crate) fn number_set(settings: &[Setting], name: &[u8]) -> u32
     match setting_of(settings, name) {
         Some(Value::Number(number)) => *number,
         _ => table::default_number(name),
+    }
+}
+
+/// The number of an option, where it was given.
+pub(crate) fn number_given(settings: &[Setting], name: &[u8]) -> Option<u32>
+    ensures { result ≡ number_given settings.now name.now }
+{
+    match setting_of(settings, name) {
+        Some(Value::Number(number)) => Some(*number),
+        _ => None,
     }
 }
 

@@ -13,6 +13,8 @@ pub enum ValueForm {
     MachineName,
     /// A number of at most the first, and the second without the option.
     NumberUpTo(u32, u32),
+    /// A number of at most this one. There is none without the option.
+    OptionalNumber(u32),
     /// A truth, and this one without the option.
     TruthValue(bool),
 }
@@ -34,7 +36,7 @@ macro_rules! rows {
     };
 }
 
-pub(crate) const TABLE: [Row; 14] = rows![
+pub(crate) const TABLE: [Row; 15] = rows![
     "table": FileName;
     "mcpu": MachineName;
     "iterations": NumberUpTo(MOST_ROWS as u32, 100);
@@ -49,6 +51,7 @@ pub(crate) const TABLE: [Row; 14] = rows![
     "timeline-max-iterations": NumberUpTo(MOST_ROWS as u32, 10);
     "timeline-max-cycles": NumberUpTo(1_000_000, 80);
     "bottleneck-analysis": TruthValue(false);
+    "load": OptionalNumber(4_294_967_295);
 ];
 
 // The form of the option with this name, where a table has it.

@@ -128,7 +128,9 @@ fn value_of_text(alloc: Global, form: ValueForm, text: &str) -> Result<Value, Wo
     match form {
         ValueForm::FileName => text_value(alloc, text),
         ValueForm::MachineName => machine_value(alloc, text),
-        ValueForm::NumberUpTo(most, _) => number_value(most, text.as_bytes()),
+        ValueForm::NumberUpTo(most, _) | ValueForm::OptionalNumber(most) => {
+            number_value(most, text.as_bytes())
+        }
         ValueForm::TruthValue(_) => truth_value(text.as_bytes()),
     }
 }
