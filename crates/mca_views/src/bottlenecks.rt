@@ -1,0 +1,279 @@
+//! What held a run up: the waits of its rows, the stalls of dispatch, and the critical sequence.
+ghost use Rattle.std.specs.Prelude.{◌≡◌, ◌≤◌, ◌<◌, ℕ, List, [], ◌∷◌, map, length, Option, IfOk, OnOk, IfErr};
+ghost use Rattle.critical_chain.specs.declared.graph.Chain.{Chain as ChainOf};
+ghost use Rattle.cycle_rules.specs.Bind.{IsBoundBody};
+ghost use Rattle.cycle_rules.specs.Run.{IsRunOf};
+ghost use Rattle.machine_model.specs.Valid.{IsValidMachine};
+ghost use Rattle.mca_words.specs.declared.options.Options.{Options as OptionsOf};
+ghost use Rattle.mca_views.specs.Bottleneck.{IsSequence, IsAsked, IsBottleneck, IsOver, sum_lines, waited_lines, stall_lines, row_tag, kind_word, link_line, sequence_lines, bottleneck_lines};
+ghost use Rattle.mca_views.specs.Fault.{Over};
+ghost use Rattle.mca_views.specs.Lines.{lines};
+ghost use Rattle.mca_views.specs.Page.{added};
+ghost use Rattle.mca_views.specs.Shown.{Shown as ShownOf, shown, run_of, IsShown};
+ghost use Rattle.mca_views.specs.WorkedBottleneck.{two_products, first_sum, two_products_text};
+
+use crate::cells::{counted, digits};
+use crate::fault::ViewFault;
+use crate::page::Page;
+use crate::timelines::tag;
+use crate::view::View;
+use crate::waited::wait_sums;
+use critical_chain::{Chain, Edge, EdgeKind, critical};
+use dep_graph::{edges, stalls};
+use machine_model::Machine;
+use mca_fixed::NoMemory;
+use mca_words::Options;
+use std::alloc::Global;
+
+/// At most one chain is the critical sequence of a run, and is to be shown; so one text shows what held it
+/// up.
+pub fn one_bottleneck()
+    ensures sequence { (s : ShownOf) (c d : ChainOf) → IsSequence s c → IsSequence s d → c ≡ d }
+    ensures asked { (o : OptionsOf) (s : ShownOf) (c d : Option ChainOf) →
+        IsAsked o s c → IsAsked o s d → c ≡ d }
+    ensures bytes { (s : ShownOf) (a b : List ℕ) → IsBottleneck s a → IsBottleneck s b → a ≡ b }
+{}
+
+/// Where a region can be shown, its body is bound by its valid machine and its table is their run, the
+/// run has a critical sequence; so it is known which sequence is to be shown, one or none.
+pub fn some_sequence()
+    ensures sequence { (numbers size : ℕ) (s : ShownOf) → IsValidMachine numbers size s.machine →
+        IsShown s → IsBoundBody s.machine s.body → IsRunOf (run_of s) s.table →
+        (c : ChainOf) × IsSequence s c }
+    ensures asked { (numbers size : ℕ) (o : OptionsOf) (s : ShownOf) →
+        IsValidMachine numbers size s.machine → IsShown s → IsBoundBody s.machine s.body →
+        IsRunOf (run_of s) s.table → (chain : Option ChainOf) × IsAsked o s chain }
+{}
+
+/// The view of a run that was worked out by hand: two products and their sums. Of the two waits the one that
+/// ends first is the critical sequence.
+pub fn worked_bottleneck()
+    ensures sequence { IsSequence two_products first_sum }
+    ensures text { lines (bottleneck_lines two_products first_sum) ≡ two_products_text }
+{}
+
+/// The critical sequence of a run, where `-bottleneck-analysis` is on; none where it is off.
+pub fn sequence_for<M: Machine>(
+    alloc: Global,
+    v: &View<M>,
+    o: &Options,
+) -> Result<Option<Chain>, NoMemory>
+    requires shown { IsShown (shown M.meaning v.now) }
+    requires bound { IsBoundBody (M.meaning v.now.machine.now) v.now.body.now }
+    requires run { IsRunOf (run_of (shown M.meaning v.now)) v.now.run.now.rows }
+    ensures { IfOk result (IsAsked o.now (shown M.meaning v.now)) }
+{
+    if !o.bottleneck_analysis {
+        return Ok(None);
+    }
+    let chain = sequence(alloc, v)?;
+    Ok(Some(chain))
+}
+
+/// What held a run up: for how many cycles its rows waited for operands, for the order of memory and for
+/// units, added up; for how many cycles dispatch stalled, by what the next row lacked; and the critical
+/// sequence, the costliest chain of waits, link by link. The body is bound by the machine and the table is
+/// its run. There is one such text (`one_bottleneck`). It has no option. The bytes are at most `room`.
+///
+/// # Errors
+/// `TooLong` where they would be more, and `Memory`.
+pub fn bottleneck<M: Machine>(
+    alloc: Global,
+    v: &View<M>,
+    _: &Options,
+    room: usize,
+) -> Result<Vec<u8>, ViewFault>
+    requires shown { IsShown (shown M.meaning v.now) }
+    requires bound { IsBoundBody (M.meaning v.now.machine.now) v.now.body.now }
+    requires run { IsRunOf (run_of (shown M.meaning v.now)) v.now.run.now.rows }
+    ensures bytes { IfOk result (λ bytes. IsBottleneck (shown M.meaning v.now) bytes.items) }
+    ensures fits { IfOk result (λ bytes. length bytes.items ≤ room) }
+    ensures long { IfErr result (IsOver (shown M.meaning v.now) room) }
+{
+    let chain = sequence(alloc, v)?;
+    let mut page = Page::make(alloc, room);
+    put_bottleneck(alloc, &mut page, v, &chain)?;
+    Ok(page.into_vec())
+}
+
+/// The critical sequence of a run.
+fn sequence<M: Machine>(alloc: Global, v: &View<M>) -> Result<Chain, NoMemory>
+    requires shown { IsShown (shown M.meaning v.now) }
+    requires bound { IsBoundBody (M.meaning v.now.machine.now) v.now.body.now }
+    requires run { IsRunOf (run_of (shown M.meaning v.now)) v.now.run.now.rows }
+    ensures { IfOk result (IsSequence (shown M.meaning v.now)) }
+{
+    let graph = edges(alloc, v.machine, v.body, v.iterations, v.run)?;
+    let chain = critical(alloc, &graph)?;
+    Ok(chain)
+}
+
+/// The lines of the view, with a chain.
+pub(crate) fn put_bottleneck<M: Machine>(
+    alloc: Global,
+    page: &mut Page,
+    v: &View<M>,
+    chain: &Chain,
+) -> Result<(), ViewFault>
+    requires closed { page.old.open_line ≡ [] }
+    requires shown { IsShown (shown M.meaning v.now) }
+    requires bound { IsBoundBody (M.meaning v.now.machine.now) v.now.body.now }
+    requires run { IsRunOf (run_of (shown M.meaning v.now)) v.now.run.now.rows }
+    ensures ok { OnOk result (page.new ≡ added page.old
+        (lines (bottleneck_lines (shown M.meaning v.now) chain.now))) }
+    ensures long { IfErr result (Over page.old.room (length (added page.old
+        (lines (bottleneck_lines (shown M.meaning v.now) chain.now))).text)) }
+{
+    put_waits(alloc, page, v)?;
+    put_stalls(alloc, page, v)?;
+    put_sequence(alloc, page, v, chain)?;
+    Ok(())
+}
+
+/// How long rows waited.
+fn put_waits<M: Machine>(alloc: Global, page: &mut Page, v: &View<M>) -> Result<(), ViewFault>
+    requires closed { page.old.open_line ≡ [] }
+    requires shown { IsShown (shown M.meaning v.now) }
+    ensures ok { OnOk result (page.new ≡ added page.old
+        (lines (waited_lines (shown M.meaning v.now)))) }
+    ensures long { IfErr result (Over page.old.room (length (added page.old
+        (lines (waited_lines (shown M.meaning v.now)))).text)) }
+{
+    let sums = wait_sums(alloc, v)?;
+    put_sums(alloc, page, sums.registers, sums.memory, sums.resources)?;
+    Ok(())
+}
+
+/// The sums of the waits, in cycles.
+fn put_sums(
+    alloc: Global,
+    page: &mut Page,
+    registers: u64,
+    memory: u64,
+    resources: u64,
+) -> Result<(), ViewFault>
+    requires closed { page.old.open_line ≡ [] }
+    ensures ok { OnOk result (page.new ≡ added page.old
+        (lines (sum_lines registers memory resources))) }
+    ensures long { IfErr result (Over page.old.room (length (added page.old
+        (lines (sum_lines registers memory resources))).text)) }
+{
+    let registers = counted(alloc, "Register wait:", registers)?;
+    let memory = counted(alloc, "Memory wait:", memory)?;
+    let resources = counted(alloc, "Resource wait:", resources)?;
+    page.put_lines(&[
+        b"Bottleneck analysis:",
+        registers.as_slice(),
+        memory.as_slice(),
+        resources.as_slice(),
+        b"",
+    ])
+}
+
+/// For how long dispatch stalled.
+fn put_stalls<M: Machine>(alloc: Global, page: &mut Page, v: &View<M>) -> Result<(), ViewFault>
+    requires closed { page.old.open_line ≡ [] }
+    requires shown { IsShown (shown M.meaning v.now) }
+    requires bound { IsBoundBody (M.meaning v.now.machine.now) v.now.body.now }
+    requires run { IsRunOf (run_of (shown M.meaning v.now)) v.now.run.now.rows }
+    ensures ok { OnOk result (page.new ≡ added page.old
+        (lines (stall_lines (shown M.meaning v.now)))) }
+    ensures long { IfErr result (Over page.old.room (length (added page.old
+        (lines (stall_lines (shown M.meaning v.now)))).text)) }
+{
+    let counts = stalls(v.machine, v.body, v.iterations, v.run);
+    let group = counted(alloc, "Group:", counts[0])?;
+    let reorder = counted(alloc, "Reorder buffer:", counts[1])?;
+    let registers = counted(alloc, "Registers:", counts[2])?;
+    let loads = counted(alloc, "Load queue:", counts[3])?;
+    let stores = counted(alloc, "Store queue:", counts[4])?;
+    let buffer = counted(alloc, "Buffer:", counts[5])?;
+    let reserved = counted(alloc, "Reserved:", counts[6])?;
+    page.put_lines(&[
+        b"Dispatch stalls:",
+        group.as_slice(),
+        reorder.as_slice(),
+        registers.as_slice(),
+        loads.as_slice(),
+        stores.as_slice(),
+        buffer.as_slice(),
+        reserved.as_slice(),
+        b"",
+    ])
+}
+
+/// A chain: what it costs, and its links.
+fn put_sequence<M: Machine>(
+    alloc: Global,
+    page: &mut Page,
+    v: &View<M>,
+    chain: &Chain,
+) -> Result<(), ViewFault>
+    requires closed { page.old.open_line ≡ [] }
+    requires some { 0 < length v.now.body.now }
+    ensures ok { OnOk result (page.new ≡ added page.old
+        (lines (sequence_lines (shown M.meaning v.now) chain.now))) }
+    ensures long { IfErr result (Over page.old.room (length (added page.old
+        (lines (sequence_lines (shown M.meaning v.now) chain.now))).text)) }
+{
+    let cost = counted(alloc, "Critical sequence:", chain.cost)?;
+    page.put_lines(&[cost.as_slice()])?;
+    put_links(alloc, page, v, chain.links.as_slice())?;
+    Ok(())
+}
+
+/// The links of a chain.
+fn put_links<M: Machine>(
+    alloc: Global,
+    page: &mut Page,
+    v: &View<M>,
+    links: &[Edge],
+) -> Result<(), ViewFault>
+    requires closed { page.old.open_line ≡ [] }
+    requires some { 0 < length v.now.body.now }
+    ensures ok { OnOk result (page.new ≡ added page.old
+        (lines (map (link_line (shown M.meaning v.now)) links.now))) }
+    ensures long { IfErr result (Over page.old.room (length (added page.old
+        (lines (map (link_line (shown M.meaning v.now)) links.now))).text)) }
+{
+    for e in links {
+        let line = link_line(alloc, v, *e)?;
+        page.put_line(&line)?;
+    }
+    Ok(())
+}
+
+/// The line of a link.
+fn link_line<M: Machine>(alloc: Global, v: &View<M>, e: Edge) -> Result<Vec<u8>, NoMemory>
+    requires some { 0 < length v.now.body.now }
+    ensures { IfOk result (λ line. line.items ≡ link_line (shown M.meaning v.now) e) }
+{
+    let mut line = row_tag(alloc, v, e.from)?;
+    line.extend_from_slice(b" -> ")?;
+    line.extend_from_slice(&row_tag(alloc, v, e.to)?)?;
+    line.extend_from_slice(b" ")?;
+    line.extend_from_slice(kind_word(e.kind))?;
+    line.extend_from_slice(b" ")?;
+    line.extend_from_slice(&digits(alloc, e.cost)?)?;
+    Ok(line)
+}
+
+/// The tag of a row.
+fn row_tag<M: Machine>(alloc: Global, v: &View<M>, j: u32) -> Result<Vec<u8>, NoMemory>
+    requires some { 0 < length v.now.body.now }
+    ensures { IfOk result (λ tag. tag.items ≡ row_tag (shown M.meaning v.now) j) }
+{
+    let j = j as usize;
+    tag(alloc, j / v.body.len(), j % v.body.len())
+}
+
+/// What was waited for.
+fn kind_word(kind: EdgeKind) -> &'static [u8]
+    ensures { result.now ≡ kind_word kind }
+{
+    match kind {
+        EdgeKind::Register => b"register",
+        EdgeKind::Memory => b"memory",
+        EdgeKind::Resource => b"resource",
+    }
+}
