@@ -1,1 +1,1 @@
-add a0, a0, a0
+add a0, a1, a2

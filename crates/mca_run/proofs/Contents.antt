@@ -1,12 +1,14 @@
 -- What stands in the contents of a shelf, and what a refused text refuses.
-use Rattle.std.proofs.Common.{◌≡◌, ℕ, ◌≤◌, ◌<◌, List, length, Some, None, Ok, Err, ◌∙◌, ap, sym, refl, subst}
+use Rattle.std.proofs.Common.{◌≡◌, ℕ, ◌≤◌, ◌<◌, List, length, Some, Ok, Err, ◌∙◌, ap, sym, refl, subst}
 use Rattle.std.specs.Prelude.{IfOk, IfErr}
 use Rattle.std.specs.declared.result.Result.{Result}
 use Rattle.rv_asm.specs.Program.{IsProgram}
-use Rattle.rv_asm.specs.declared.item.AsmText.{AsmText}
+use Rattle.rv_asm.specs.declared.item.Item.{Item}
 use Rattle.sched_records.specs.Table.{HasRecords}
 use Rattle.sched_records.specs.declared.records.Record.{Record}
-use Rattle.mca_run.specs.Items.{items_fault}
+use Rattle.region_marks.specs.Marked.{code_of}
+use Rattle.region_marks.specs.Regions.{regions_of}
+use Rattle.mca_run.specs.declared.program.Program.{Program}
 use Rattle.mca_fixed.specs.declared.limits.TheConstants.{MOST_TEXT_BYTES}
 use Rattle.mca_io.specs.Devices.{Told, IfContent}
 use Rattle.mca_words.specs.declared.options.Options.{Options}
@@ -105,10 +107,11 @@ table_of_files text Memory h = tt
 
 -- What a step makes of a text that was read
 
-pub program_ok : {E : Type 0} (told : List ℕ → Told) (o : Options) (text : List ℕ) (r : Result AsmText E) → length text ≤ MOST_TEXT_BYTES → IfContent (told o.input) (λ content. text ≡ content)
-    → IfOk r (λ asm. IsProgram text asm.items asm.names) → IfOk r (λ asm. items_fault asm.items ≡ None) → IfOk r (λ asm. (contents : Contents) → TellsName told contents o.input → IsInput contents o asm.items)
-program_ok told o text (Ok asm) short is program lawful = λ contents tells. record { text = text; there = is_there told contents o.input text tells is; short = short; names = asm.names; program = program; lawful = lawful }
-program_ok told o text (Err e) short is program lawful = tt
+pub program_ok : {E : Type 0} (told : List ℕ → Told) (o : Options) (text : List ℕ) (r : Result Program E) → length text ≤ MOST_TEXT_BYTES → IfContent (told o.input) (λ content. text ≡ content)
+    → IfOk r (λ p. (items : List Item) × IsProgram text items p.names × (p.code ≡ code_of items) × (regions_of items ≡ Ok p.regions)) → IfOk r (λ p. (contents : Contents) → TellsName told contents o.input → IsInput contents o p)
+program_ok told o text (Ok p) short is (items, program, code, regions) = λ contents tells.
+    record { text = text; there = is_there told contents o.input text tells is; short = short; items = items; program = program; code = code; regions = regions }
+program_ok told o text (Err e) short is h = tt
 
 pub program_err : {T E : Type 0} (status : E → Status) (told : List ℕ → Told) (o : Options) (text : List ℕ) (r : Result T E) → length text ≤ MOST_TEXT_BYTES → IfContent (told o.input) (λ content. text ≡ content)
     → IfErr r (λ e. MayRefuseText text (status e)) → IfErr r (λ e. (contents : Contents) → TellsName told contents o.input → IfRefused (IsAsmRefusal contents o) (status e))

@@ -1,22 +1,23 @@
 -- Why the work on a call has no report, at each of its exits.
-use Rattle.std.proofs.Common.{◌≡◌, ℕ, ◌≤◌, inl, inr, List, None, Ok, Err, sym, ◌∙◌, ap, subst, arith, refl}
+use Rattle.std.proofs.Common.{◌≡◌, ℕ, ◌+◌, ◌≤◌, inl, inr, List, Some, None, Ok, Err, sym, ◌∙◌, ap, subst, arith, refl}
 use Rattle.std.specs.Prelude.{IfOk, IfErr}
+use Rattle.std.specs.declared.option.Option.{Option}
 use Rattle.std.specs.declared.result.Result.{Result}
 use Rattle.mca_io.specs.Devices.{Rose, Told}
+use Rattle.mca_words.specs.Answer.{answer_of}
 use Rattle.mca_words.specs.declared.fault.WordFault.{WordFault}
 use Rattle.mca_words.specs.declared.options.Options.{Options}
-use Rattle.rv_asm.specs.declared.item.Item.{Item}
-use Rattle.rv_isa.specs.declared.instr.Instr.{Instr}
-use Rattle.mca_run.specs.Asked.{IsWordFault, IsAsked}
-use Rattle.mca_run.specs.Items.{code_of}
+use Rattle.mca_run.specs.Asked.{IsWordFault, IsAsked, IsLoadAsked, iterations_of}
+use Rattle.mca_run.specs.Turns.{program_turns, StepsRiseBy, LoadStepsRise, StepsRise}
+use Rattle.mca_run.specs.declared.program.Program.{Program}
 use Rattle.mca_run.specs.Machines.{fixed_of}
-use Rattle.mca_run.specs.Report.{IsRunReport, IsReport}
-use Rattle.mca_run.specs.Refusal.{Contents, TellsFiles, WhereTold, IsInput, IsAsmRefusal, IsRunRefusal, IsRefusal, by_words, by_assembly, by_run, IfRefused}
+use Rattle.mca_run.specs.Report.{IsRunReport, IsReport, of_files}
+use Rattle.mca_run.specs.Refusal.{Contents, TellsFiles, WhereTold, IsInput, IsMachine, IsAsmRefusal, IsRunRefusal, IsRefusal, by_words, by_assembly, by_run, IfRefused}
 use Rattle.mca_run.specs.Steps.{TellsName, TellsTable, MayRefuseWords, IsOfFiles, IsStopped}
 use Rattle.mca_run.specs.Outcome.{NamedFault, NamedInOrder}
 use Rattle.mca_run.specs.declared.status.Status.{Status}
 use Rattle.mca_run.specs.declared.status.Status.TheVariants.{Done, Words, Assembly, Table, Machine, Limit, ReadFault, WriteFault, Memory}
-use Rattle.mca_run.proofs.Causes.{word_fault_asked, word_fault_same}
+use Rattle.mca_run.proofs.Causes.{word_fault_asked, load_not_files, load_same, word_fault_same, asked_same, input_same, input_along}
 use Rattle.mca_run.proofs.Refused.{refused_along}
 
 words_not_read : (fault : WordFault) → Words fault ≡ ReadFault → ⊥
@@ -84,41 +85,79 @@ rose_later a b c later rose = omega (arith, later, rose)
 table_fault : (words : List (List ℕ)) (o : Options) (before between after : List ℕ → ℕ) → IsAsked words o → ((n : List ℕ) → before n ≤ between n) → fixed_of o ≡ None → Rose (between o.table) (after o.table) → NamedFault words before after
 table_fault words o before between after asked later none rose = record { options = o; asked = asked; rose = inr (none, rose_later (before o.table) (between o.table) (after o.table) (later o.table) rose) }
 
-table_in_order : (words : List (List ℕ)) (contents : Contents) (o : Options) (items : List Item) (before between after : List ℕ → ℕ) → IsAsked words o → IsInput contents o items → ((n : List ℕ) → before n ≤ between n)
+table_in_order : (words : List (List ℕ)) (contents : Contents) (o : Options) (p : Program) (before between after : List ℕ → ℕ) → IsAsked words o → IsInput contents o p → ((n : List ℕ) → before n ≤ between n)
     → fixed_of o ≡ None → Rose (between o.table) (after o.table) → NamedInOrder words contents before after
-table_in_order words contents o items before between after asked input later none rose =
-    record { options = o; asked = asked; rose = inr (items, input, none, rose_later (before o.table) (between o.table) (after o.table) (later o.table) rose) }
+table_in_order words contents o p before between after asked input later none rose =
+    record { options = o; asked = asked; rose = inr (p, input, none, rose_later (before o.table) (between o.table) (after o.table) (later o.table) rose) }
 
 -- what the shelf tells of the table is what it told at first
 table_told : (before between : List ℕ → Told) (o : Options) (contents : Contents) → TellsFiles o before contents → ((n : List ℕ) → between n ≡ before n) → TellsTable between contents o
 table_told before between o contents tells told = λ none. told o.table ∙ tells.table none
 
--- the run of the code of these items was reported
-pub run_reported : {T E : Type 0} (bytes : T → List ℕ) (words : List (List ℕ)) (before between : List ℕ → Told) (o : Options) (items : List Item) (code : List Instr) (r : Result T E) → IsAsked words o
-    → ((contents : Contents) → TellsName before contents o.input → IsInput contents o items) → ((n : List ℕ) → between n ≡ before n) → code ≡ code_of items
-    → IfOk r (λ x. (contents : Contents) → TellsTable between contents o → IsRunReport contents o code (bytes x)) → IfOk r (λ x. WhereTold words before (λ files. IsReport words files (bytes x)))
-run_reported bytes words before between o items code (Ok x) asked input told same h = λ contents tells. record {
+-- the program was reported
+pub run_reported : {T E : Type 0} (bytes : T → List ℕ) (words : List (List ℕ)) (before between : List ℕ → Told) (o : Options) (p : Program) (r : Result T E) → IsAsked words o
+    → ((contents : Contents) → TellsName before contents o.input → IsInput contents o p) → ((n : List ℕ) → between n ≡ before n)
+    → IfOk r (λ x. (contents : Contents) → TellsTable between contents o → IsRunReport contents o p (bytes x)) → IfOk r (λ x. WhereTold words before (λ files. IsReport words files (bytes x)))
+run_reported bytes words before between o p (Ok x) asked input told h = λ contents tells. of_files (record {
   options = o;
   asked = asked;
-  items = items;
+  program = p;
   input = input contents (tells o asked).input;
-  run = subst (λ c. IsRunReport contents o c (bytes x)) same (h contents (table_told before between o contents (tells o asked) told));
-}
-run_reported bytes words before between o items code (Err e) asked input told same h = tt
+  run = h contents (table_told before between o contents (tells o asked) told);
+})
+run_reported bytes words before between o p (Err e) asked input told h = tt
 
 -- or refused, or the table was not read
-pub run_stopped : {T E : Type 0} (status : E → Status) (words : List (List ℕ)) (told middle : List ℕ → Told) (before between after : List ℕ → ℕ) (o : Options) (items : List Item) (code : List Instr) (r : Result T E) → IsAsked words o
-    → ((contents : Contents) → TellsName told contents o.input → IsInput contents o items) → ((n : List ℕ) → middle n ≡ told n) → ((n : List ℕ) → before n ≤ between n) → code ≡ code_of items
-    → IfErr r (λ e. (contents : Contents) → TellsTable middle contents o → IfRefused (IsRunRefusal contents o code) (status e)) → IfErr r (λ e. IsOfFiles (status e))
+pub run_stopped : {T E : Type 0} (status : E → Status) (words : List (List ℕ)) (told middle : List ℕ → Told) (before between after : List ℕ → ℕ) (o : Options) (p : Program) (r : Result T E) → IsAsked words o
+    → ((contents : Contents) → TellsName told contents o.input → IsInput contents o p) → ((n : List ℕ) → middle n ≡ told n) → ((n : List ℕ) → before n ≤ between n)
+    → IfErr r (λ e. (contents : Contents) → TellsTable middle contents o → IfRefused (IsRunRefusal contents o p) (status e)) → IfErr r (λ e. IsOfFiles (status e))
     → IfErr r (λ e. status e ≡ ReadFault → fixed_of o ≡ None) → IfErr r (λ e. status e ≡ ReadFault → Rose (between o.table) (after o.table)) → IfErr r (λ e. IsStopped words told before after (status e))
-run_stopped status words told middle before between after o items code (Ok x) asked input same later is err of none fault = tt
-run_stopped status words told middle before between after o items code (Err e) asked input same later is err of none fault = record {
-  refused = λ files tells. refused_along (IsRunRefusal files o (code_of items)) (IsRefusal words files) (λ t refusal. by_run o items asked (input files (tells o asked).input) refusal) (status e)
-      (subst (λ c. IfRefused (IsRunRefusal files o c) (status e)) is (err files (table_told told middle o files (tells o asked) same)));
+run_stopped status words told middle before between after o p (Ok x) asked input same later err of none fault = tt
+run_stopped status words told middle before between after o p (Err e) asked input same later err of none fault = record {
+  refused = λ files tells. refused_along (IsRunRefusal files o p) (IsRefusal words files) (λ t refusal. by_run o p asked (input files (tells o asked).input) refusal) (status e)
+      (err files (table_told told middle o files (tells o asked) same));
   of_words = λ f w. absurd (of_files_not_words (status e) f of w);
   words_first = λ f h. absurd (word_fault_asked words f o h asked);
   fault = λ w. table_fault words o before between after asked later (none w) (fault w);
-  in_order = λ files tells w. table_in_order words files o items before between after asked (input files (tells o asked).input) later (none w) (fault w);
+  in_order = λ files tells w. table_in_order words files o p before between after asked (input files (tells o asked).input) later (none w) (fault w);
+}
+
+-- the steps of the program's run are those of the call
+pub run_steps : (words : List (List ℕ)) (before between : List ℕ → Told) (o : Options) (p : Program) (from to : ℕ) → IsAsked words o
+    → ((contents : Contents) → TellsName before contents o.input → IsInput contents o p) → ((n : List ℕ) → between n ≡ before n)
+    → ((contents : Contents) → TellsTable between contents o → StepsRiseBy contents o p from to) → WhereTold words before (λ files. StepsRise words files from to)
+run_steps words before between o p from to asked input told h = λ files tells.
+    (let rise = h files (table_told before between o files (tells o asked) told) in
+    record {
+      some = λ x q m set_up. (let program : p ≡ q = input_same files o p q (input files (tells o asked).input) (input_along words files o x q asked set_up.asked set_up.input) in
+          subst (λ y. to ≤ from + program_turns m (iterations_of y) q) (asked_same words o x asked set_up.asked)
+          (subst (λ y. to ≤ from + program_turns m (iterations_of o) y) program
+          (rise.some m (subst (λ y. IsMachine files y m) (asked_same words x o set_up.asked asked) set_up.machine))));
+      load = λ seed loads. absurd (load_not_files words o seed asked loads);
+      none = λ absent loads. rise.none (λ m is. absent o p m (record { asked = asked; input = input files (tells o asked).input; machine = is }));
+    })
+
+-- a call without a run takes no steps
+pub no_steps : (words : List (List ℕ)) (told : List ℕ → Told) (from to : ℕ) → to ≡ from → WhereTold words told (λ files. StepsRise words files from to)
+no_steps words told from to same = λ files tells. record { some = λ o p m set_up. omega (arith, same); load = λ seed loads t tuned. omega (arith, same); none = λ absent loads. same }
+
+-- options without a number ask for the report on files, and those with one for the report on its program
+not_some : (load : Option ℕ) → ((seed : ℕ) → load ≡ Some seed → ⊥) → load ≡ None
+not_some None none = refl
+not_some (Some seed) none = absurd (none seed refl)
+
+pub asked_files : (words : List (List ℕ)) (o : Options) → answer_of words ≡ Ok o → ((seed : ℕ) → o.load ≡ Some seed → ⊥) → IsAsked words o
+asked_files words o answer none = record { options = answer; of_files = not_some o.load none }
+
+pub asked_load : (words : List (List ℕ)) (o : Options) (seed : ℕ) → answer_of words ≡ Ok o → o.load ≡ Some seed → IsLoadAsked words seed
+asked_load words o seed answer load = record { options = o; answer = answer; load = load }
+
+-- the steps of the run of the program that a number gives
+pub load_steps : (words : List (List ℕ)) (told : List ℕ → Told) (from to seed : ℕ) → IsLoadAsked words seed → LoadStepsRise seed from to → WhereTold words told (λ files. StepsRise words files from to)
+load_steps words told from to seed loads rise = λ files tells. record {
+  some = λ o p m set_up. absurd (load_not_files words o seed set_up.asked loads);
+  load = λ other asked. subst (λ n. LoadStepsRise n from to) (load_same words seed other loads asked) rise;
+  none = λ absent none. absurd (none seed loads);
 }
 
 -- words that ask for something have no fault

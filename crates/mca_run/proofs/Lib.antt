@@ -1,8 +1,7 @@
 pub mod OneReport
 pub mod OneMachine
 pub mod Walk
-pub mod LawfulCode
-pub mod RunRows
+pub mod SoundProgram
 pub mod Causes
 pub mod Refused
 pub mod OfKinds
@@ -10,3 +9,6 @@ pub mod Outcomes
 pub mod Contents
 pub mod MachineSteps
 pub mod Exits
+pub mod Generated
+pub mod LoadReports
+pub mod Reports

@@ -1,5 +1,5 @@
 -- Options and contents name one machine, and a machine has one answer to a program.
-use Rattle.std.proofs.Common.{◌≡◌, ℕ, List, Ok, Err, sym, ◌∙◌, ap, subst, arith, Bool, true, false}
+use Rattle.std.proofs.Common.{◌≡◌, ℕ, ◌<◌, ◌≤◌, List, length, Ok, Err, sym, ◌∙◌, ap, arith}
 use Rattle.std.specs.Prelude.{slice_get}
 use Rattle.std.specs.declared.result.Result.{Result}
 use Rattle.cycle_rules.specs.declared.bound.Bound.{Bound}
@@ -7,7 +7,6 @@ use Rattle.machine_model.specs.Fixed.{fixed_meaning, given_or}
 use Rattle.machine_model.specs.Meaning.{MachineMeaning}
 use Rattle.machine_model.specs.declared.tuning.Tuning.{Tuning}
 use Rattle.mca_words.specs.declared.options.Options.{Options}
-use Rattle.rv_isa.specs.declared.instr.Instr.{Instr}
 use Rattle.sched_checks.specs.Resources.{count_of, resources_of}
 use Rattle.sched_resolve.specs.declared.entry.Defaults.{Defaults}
 use Rattle.sched_resolve.specs.declared.entry.Entry.{Entry}
@@ -16,7 +15,14 @@ use Rattle.sched_validate.specs.Machine.{machine_of, or_own, model_of, bound_by}
 use Rattle.sched_validate.specs.Lists.{load_queues_of, store_queues_of}
 use Rattle.sched_validate.specs.declared.fault.BindFault.{BindFault}
 use Rattle.mca_run.specs.Machines.{IsTuned, built_in_meaning}
-use Rattle.mca_run.specs.Refusal.{IsTaken, IsCodeRefusal, by_opcode, by_size, opcode_status}
+use Rattle.mca_run.specs.Asked.{iterations_of}
+use Rattle.mca_run.specs.Refusal.{IsBound, IsTaken, IsUnbound, IsTooLong, rows_at, IsCodeRefusal, by_opcode, by_size, by_length, opcode_status}
+use Rattle.mca_run.specs.Regions.{code_at}
+use Rattle.mca_run.specs.Whole.{IsWholeReport}
+use Rattle.mca_run.specs.declared.program.Program.{Program}
+use Rattle.mca_run.specs.declared.status.LimitKind.TheVariants.{RunSize}
+use Rattle.mca_run.specs.declared.status.Status.TheVariants.{Limit}
+use Rattle.mca_fixed.specs.declared.limits.TheConstants.{MOST_ROWS, MOST_REPORT_BYTES}
 use Rattle.mca_run.specs.declared.machine.BuiltIn.{BuiltIn}
 use Rattle.mca_run.specs.declared.machine.BuiltIn.TheVariants.{Tiny, Dual, Quad}
 use Rattle.mca_run.specs.declared.status.Status.{Status}
@@ -66,27 +72,47 @@ table_tuned es ds o t u p q =
 
 -- The answer of a machine to a program
 
-ok_same : (a b : List Bound) → ◌≡◌ {A = Result (List Bound) BindFault} (Ok a) (Ok b) → a ≡ b
-ok_same a b e = cc
-
 err_same : (a b : BindFault) → ◌≡◌ {A = Result (List Bound) BindFault} (Err a) (Err b) → a ≡ b
 err_same a b e = cc
 
 err_not_ok : (r : Result (List Bound) BindFault) (f : BindFault) (b : List Bound) → r ≡ Err f → r ≡ Ok b → ⊥
 err_not_ok r f b p q = let both : ◌≡◌ {A = Result (List Bound) BindFault} (Err f) (Ok b) = sym p ∙ q in cc
 
-body_same : (m : MachineMeaning) (code : List Instr) (a b : List Bound) → bound_code m code ≡ Ok a → bound_code m code ≡ Ok b → a ≡ b
-body_same m code a b p q = ok_same a b (sym p ∙ q)
+unbound_not_bound : (m : MachineMeaning) (p : Program) (k : ℕ) (f : BindFault) → IsUnbound m p k f → IsBound m p k → ⊥
+unbound_not_bound m p k f u (body, bound) = err_not_ok (bound_code m (code_at p k)) f body u.here bound
 
-pub code_refusal_same : (m : MachineMeaning) (code : List Instr) (n : ℕ) (s t : Status) → IsCodeRefusal m code n s → IsCodeRefusal m code n t → s ≡ t
-code_refusal_same m code n s t (by_opcode f p e) (by_opcode g q d) = e ∙ ap opcode_status (err_same f g (sym p ∙ q)) ∙ sym d
-code_refusal_same m code n s t (by_opcode f p e) (by_size b q more d) = absurd (err_not_ok (bound_code m code) f b p q)
-code_refusal_same m code n s t (by_size b p more e) (by_opcode g q d) = absurd (err_not_ok (bound_code m code) g b q p)
-code_refusal_same m code n s t (by_size b p more e) (by_size c q less d) = e ∙ sym d
+unbound_same : (m : MachineMeaning) (p : Program) (k j : ℕ) (f g : BindFault) → IsUnbound m p k f → IsUnbound m p j g → f ≡ g
+unbound_same m p k j f g u v =
+    let not_below : k < j → ⊥ = λ below. unbound_not_bound m p k f u (v.earlier k below) in
+    let not_above : j < k → ⊥ = λ below. unbound_not_bound m p j g v (u.earlier j below) in
+    let same : k ≡ j = grind (arith, not_below, not_above) in
+    err_same f g (sym u.here ∙ ap (λ n. bound_code m (code_at p n)) same ∙ v.here)
 
-pub code_refusal_taken : (m : MachineMeaning) (code : List Instr) (n : ℕ) (s : Status) (body : List Bound) → IsCodeRefusal m code n s → IsTaken m code n body → ⊥
-code_refusal_taken m code n s body (by_opcode f p e) k = err_not_ok (bound_code m code) f body p k.bound
-code_refusal_taken m code n s body (by_size b p more e) k = omega (arith, more, k.few)
+long_same : (p : Program) (n k j : ℕ) → IsTooLong p n k → IsTooLong p n j → k ≡ j
+long_same p n k j u v =
+    let not_below : k < j → ⊥ = λ below. (let few : rows_at p n k ≤ MOST_ROWS = v.earlier k below in omega (arith, few, u.here)) in
+    let not_above : j < k → ⊥ = λ below. (let few : rows_at p n j ≤ MOST_ROWS = u.earlier j below in omega (arith, few, v.here)) in
+    grind (arith, not_below, not_above)
 
-pub taken_same : (m : MachineMeaning) (code : List Instr) (n : ℕ) (a b : List Bound) → IsTaken m code n a → IsTaken m code n b → a ≡ b
-taken_same m code n a b p q = body_same m code a b p.bound q.bound
+long_not_few : (p : Program) (n k : ℕ) → IsTooLong p n k → rows_at p n k ≤ MOST_ROWS → ⊥
+long_not_few p n k u few = omega (arith, few, u.here)
+
+pub code_refusal_same : (m : MachineMeaning) (o : Options) (p : Program) (s t : Status) → IsCodeRefusal m o p s → IsCodeRefusal m o p t → s ≡ t
+code_refusal_same m o p s t (by_opcode k f u e) (by_opcode j g v d) = e ∙ ap opcode_status (unbound_same m p k j f g u v) ∙ sym d
+code_refusal_same m o p s t (by_opcode k f u e) (by_size j bound v d) = absurd (unbound_not_bound m p k f u (bound k u.region))
+code_refusal_same m o p s t (by_opcode k f u e) (by_length report taken whole long d) = absurd (unbound_not_bound m p k f u (taken.bound k u.region))
+code_refusal_same m o p s t (by_size k bound u e) (by_opcode j g v d) = absurd (unbound_not_bound m p j g v (bound j v.region))
+code_refusal_same m o p s t (by_size k bound u e) (by_size j other v d) = e ∙ ap (λ n. Limit RunSize (rows_at p (iterations_of o) n)) (long_same p (iterations_of o) k j u v) ∙ sym d
+code_refusal_same m o p s t (by_size k bound u e) (by_length report taken whole long d) = absurd (long_not_few p (iterations_of o) k u (taken.few k u.region))
+code_refusal_same m o p s t (by_length report taken whole long e) (by_opcode j g v d) = absurd (unbound_not_bound m p j g v (taken.bound j v.region))
+code_refusal_same m o p s t (by_length report taken whole long e) (by_size j other v d) = absurd (long_not_few p (iterations_of o) j v (taken.few j v.region))
+code_refusal_same m o p s t (by_length report taken whole long e) (by_length other taken_too whole_too long_too d) = e ∙ sym d
+
+too_long : (report : List ℕ) → MOST_REPORT_BYTES < length report → length report ≤ MOST_REPORT_BYTES → ⊥
+too_long report long short = omega (arith, long, short)
+
+pub code_refusal_taken : (m : MachineMeaning) (o : Options) (p : Program) (s : Status) → IsCodeRefusal m o p s → IsTaken m p (iterations_of o)
+    → ((report : List ℕ) → IsWholeReport m o p report → length report ≤ MOST_REPORT_BYTES) → ⊥
+code_refusal_taken m o p s (by_opcode k f u e) taken short = unbound_not_bound m p k f u (taken.bound k u.region)
+code_refusal_taken m o p s (by_size k bound u e) taken short = long_not_few p (iterations_of o) k u (taken.few k u.region)
+code_refusal_taken m o p s (by_length report also whole long e) taken short = too_long report long (short report whole)

@@ -7,17 +7,17 @@ use Rattle.std.specs.Io.KnownBytes.{Keeps}
 use Rattle.mca_io.specs.Devices.{HasCause, Rose, Told}
 use Rattle.mca_words.specs.declared.fault.WordFault.{WordFault}
 use Rattle.mca_words.specs.declared.options.Options.{Options}
-use Rattle.mca_run.specs.Asked.{IsWordFault, IsAsked}
+use Rattle.mca_run.specs.Asked.{IsWordFault, IsAsked, IsLoadAsked}
 use Rattle.mca_run.specs.Lines.{line_of}
 use Rattle.mca_run.specs.Machines.{fixed_of}
 use Rattle.mca_run.specs.Refusal.{Contents, WhereTold, IsRefusal, IfRefused}
-use Rattle.mca_run.specs.Report.{IsReport}
+use Rattle.mca_run.specs.Report.{IsFilesReport, IsReport, of_files, of_load}
 use Rattle.mca_run.specs.Steps.{IsStopped}
 use Rattle.mca_run.specs.Stop.{is_stop}
 use Rattle.mca_run.specs.Outcome.{Change, IsKept, Gets, GetsFront, TellsLine, MayTell, MayTellOf, LineFailed, LineWritten, IsFailure, IsAccepted, IsComplete, HoldsNoMemory, NamedFault, NamedInOrder}
 use Rattle.mca_run.specs.declared.status.Status.{Status}
 use Rattle.mca_run.specs.declared.status.Status.TheVariants.{Done, Words, Assembly, Table, Machine, Limit, ReadFault, WriteFault, Memory}
-use Rattle.mca_run.proofs.Causes.{none_is_some, refusal_same, refusal_accepted, not_both, refusal_assembly, refusal_table, machine_there}
+use Rattle.mca_run.proofs.Causes.{none_is_some, load_not_files, refusal_load, refusal_same, refusal_accepted, not_both, refusal_assembly, refusal_table, machine_there}
 use Rattle.mca_run.proofs.Refused.{stop_plain, stop_not_done, stop_not_write}
 
 memory_not_write : Memory ≡ WriteFault → ⊥
@@ -25,13 +25,13 @@ memory_not_write e = cc
 
 -- A report
 
--- where there is a report, Done is a complete answer
-pub done_complete : (words : List (List ℕ)) (contents : Contents) (a : List ℕ) → IsReport words contents a → IsComplete words contents Done
-done_complete words contents a q = record {
-  refused = λ s h. absurd (not_both words contents s a h q);
+files_complete : (words : List (List ℕ)) (contents : Contents) (a : List ℕ) → IsFilesReport words contents a → IsComplete words contents Done
+files_complete words contents a q = record {
+  refused = λ s h. absurd (not_both words contents s a h (of_files q));
   no_assembly = λ o asked none. absurd (absent_input o asked none);
-  no_table = λ o items asked input none absent. absurd (absent_table o asked none absent);
+  no_table = λ o p asked input none absent. absurd (absent_table o asked none absent);
   accepted = λ accepted. inl refl;
+  load = λ seed asked. inl refl;
 }
   where
     same : (o : Options) → IsAsked words o → o ≡ q.options
@@ -42,6 +42,20 @@ done_complete words contents a q = record {
 
     absent_table : (o : Options) → IsAsked words o → fixed_of o ≡ None → contents o.table ≡ None → ⊥
     absent_table o asked none absent = machine_there contents q.options q.run.machine q.run.named (subst (λ x. fixed_of x ≡ None) (same o asked) none) (subst (λ x. contents x.table ≡ None) (same o asked) absent)
+
+load_complete : (words : List (List ℕ)) (contents : Contents) (seed : ℕ) → IsLoadAsked words seed → IsComplete words contents Done
+load_complete words contents seed loads = record {
+  refused = λ s h. absurd (refusal_load words contents s seed h loads);
+  no_assembly = λ o asked none. absurd (load_not_files words o seed asked loads);
+  no_table = λ o p asked input none absent. absurd (load_not_files words o seed asked loads);
+  accepted = λ accepted. inl refl;
+  load = λ other asked. inl refl;
+}
+
+-- where there is a report, Done is a complete answer
+pub done_complete : (words : List (List ℕ)) (contents : Contents) (a : List ℕ) → IsReport words contents a → IsComplete words contents Done
+done_complete words contents a (of_files q) = files_complete words contents a q
+done_complete words contents a (of_load seed asked q) = load_complete words contents seed asked
 
 -- a line was written whole, or a proper front of it
 pub line_or_front : {T E : Type 0} (sink : Change) (bytes : List ℕ) (r : Result T E) → OnOk r (Gets sink bytes) → OnErr r ((n : ℕ) × (n < length bytes) × Gets sink (take n bytes)) → HasCause sink.0.faults sink.1.faults r
@@ -57,21 +71,23 @@ pub failure_complete : (words : List (List ℕ)) (contents : Contents) (result :
 failure_complete words contents result failure = record {
   refused = λ s h. inr failure;
   no_assembly = λ o asked none. failure;
-  no_table = λ o items asked input none absent. failure;
+  no_table = λ o p asked input none absent. failure;
   accepted = λ accepted. inr failure;
+  load = λ seed asked. inr failure;
 }
 
 -- A line
 
 accepted_not_refused : (words : List (List ℕ)) (contents : Contents) (s : Status) → IsRefusal words contents s → IsAccepted words contents → ⊥
-accepted_not_refused words contents s h a = refusal_accepted words contents s a.options a.items a.machine a.body h a.asked a.input a.named a.taken
+accepted_not_refused words contents s h a = refusal_accepted words contents s a.options a.program a.machine h a.asked a.input a.named a.taken a.short
 
 refusal_complete : (words : List (List ℕ)) (contents : Contents) (s : Status) → IsRefusal words contents s → IsComplete words contents s
 refusal_complete words contents s h = record {
   refused = λ t g. inl (refusal_same words contents s t h g);
   no_assembly = λ o asked none. absurd (refusal_assembly words contents s o h asked none);
-  no_table = λ o items asked input none absent. absurd (refusal_table words contents s o items h asked input none absent);
+  no_table = λ o p asked input none absent. absurd (refusal_table words contents s o p h asked input none absent);
   accepted = λ accepted. absurd (accepted_not_refused words contents s h accepted);
+  load = λ seed asked. absurd (refusal_load words contents s seed h asked);
 }
 
 -- a status that stops the work is a complete answer

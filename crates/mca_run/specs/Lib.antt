@@ -1,9 +1,13 @@
 pub mod Lines
-pub mod Items
+pub mod Regions
 pub mod Asked
+pub mod Load
 pub mod Machines
+pub mod LoadReport
+pub mod Whole
 pub mod Refusal
 pub mod Report
+pub mod Turns
 pub mod Outcome
 pub mod Stop
 pub mod Steps

@@ -12,7 +12,7 @@ use Rattle.mca_run.specs.declared.status.MachineRefusal.TheVariants as machine
 use Rattle.mca_run.specs.declared.status.OpKind.{OpKind}
 use Rattle.mca_run.specs.declared.status.OpKind.TheVariants as op_kind
 use Rattle.mca_run.specs.declared.status.LimitKind.{LimitKind}
-use Rattle.mca_run.specs.declared.status.LimitKind.TheVariants.{AssemblyBytes, TableBytes, RunSize}
+use Rattle.mca_run.specs.declared.status.LimitKind.TheVariants.{AssemblyBytes, TableBytes, RunSize, ReportBytes}
 
 abbrev pub number_of : Status → ℕ
 number_of Done = 0
@@ -29,6 +29,7 @@ abbrev pub limit_kind_name : LimitKind → List ℕ
 limit_kind_name AssemblyBytes = codes "AssemblyBytes"
 limit_kind_name TableBytes = codes "TableBytes"
 limit_kind_name RunSize = codes "RunSize"
+limit_kind_name ReportBytes = codes "ReportBytes"
 
 abbrev pub op_kind_name : OpKind → List ℕ
 op_kind_name op_kind.NoWriteRes = codes "NoWriteRes"

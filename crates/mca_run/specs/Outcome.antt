@@ -1,22 +1,22 @@
 -- What a call of the tool leaves: the bytes on the report's sink and on the errors' sink, by its status.
-use Rattle.std.specs.Prelude.{◌≡◌, ◌≢◌, ℕ, ◌<◌, ◌⊎◌, ⊤, List, length, take, None}
+use Rattle.std.specs.Prelude.{◌≡◌, ◌≢◌, ℕ, ◌<◌, ◌≤◌, ◌⊎◌, ⊤, List, length, take, None}
 use Rattle.std.specs.declared.option.Option.{Option}
 use Rattle.std.specs.Io.KnownBytes.{Appends, Keeps, IsAtEnd}
-use Rattle.cycle_rules.specs.declared.bound.Bound.{Bound}
 use Rattle.machine_model.specs.Meaning.{MachineMeaning}
+use Rattle.mca_fixed.specs.declared.limits.TheConstants.{MOST_REPORT_BYTES}
 use Rattle.mca_io.specs.Devices.{Rose, Seen}
 use Rattle.mca_words.specs.declared.fault.WordKind.TheVariants as word
 use Rattle.mca_words.specs.declared.options.Options.{Options}
 use Rattle.rv_asm.specs.declared.fault.AsmKind.TheVariants as asm
-use Rattle.rv_asm.specs.declared.item.Item.{Item}
 use Rattle.sched_checks.specs.declared.illness.IllKind.TheVariants as ill
 use Rattle.sched_records.specs.declared.refusal.TableKind.TheVariants as table
 use Rattle.mca_run.specs.Lines.{line_of}
-use Rattle.mca_run.specs.Asked.{IsAsked, IsWordFault, iterations_of}
-use Rattle.mca_run.specs.Items.{code_of}
+use Rattle.mca_run.specs.Asked.{IsAsked, IsLoadAsked, IsWordFault, iterations_of}
 use Rattle.mca_run.specs.Machines.{fixed_of}
 use Rattle.mca_run.specs.Refusal.{Contents, IsInput, IsMachine, IsTaken, IsRefusal}
 use Rattle.mca_run.specs.Report.{IsReport}
+use Rattle.mca_run.specs.Whole.{IsWholeReport}
+use Rattle.mca_run.specs.declared.program.Program.{Program}
 use Rattle.mca_run.specs.declared.status.Status.{Status}
 use Rattle.mca_run.specs.declared.status.Status.TheVariants.{Done, Words, Assembly, Table, Machine, ReadFault, WriteFault, Memory}
 use Rattle.mca_run.specs.declared.status.MachineRefusal.TheVariants as machine
@@ -79,7 +79,7 @@ pub record NamedInOrder (words : List (List ℕ)) (contents : Contents) (before 
   pub options : Options
   pub asked : IsAsked words options
   pub rose : Rose (before options.input) (after options.input)
-      ⊎ ((items : List Item) × IsInput contents options items × (fixed_of options ≡ None) × Rose (before options.table) (after options.table))
+      ⊎ ((p : Program) × IsInput contents options p × (fixed_of options ≡ None) × Rose (before options.table) (after options.table))
 
 -- a status that has a line may be the answer, by the words and by the counts of the shelf
 abbrev pub MayTell : List (List ℕ) → (List ℕ → ℕ) → (List ℕ → ℕ) → Status → Type 0
@@ -97,12 +97,16 @@ MayTellOf words contents before after ReadFault = NamedInOrder words contents be
 MayTellOf words contents before after Memory = ⊤
 MayTellOf words contents before after status = IsRefusal words contents status
 
+-- each file that is read was read to its end; for the program that a number gives none is read
+abbrev pub AreReadToEnd : List (List ℕ) → Option (List ℕ) → Type 0
+AreReadToEnd words rest = (o : Options) → IsAsked words o → IsAtEnd rest
+
 -- the report's sink failed, after each file that is read was read to its end: a proper front of a report came, and the line of the write fault, whole unless the errors'
 -- sink failed too
-pub record ReportFailed (Is : List ℕ → Type 0) (rest : Option (List ℕ)) (out err : Change) : Type 0 where
+pub record ReportFailed (words : List (List ℕ)) (Is : List ℕ → Type 0) (rest : Option (List ℕ)) (out err : Change) : Type 0 where
   pub report : List ℕ
   pub is : Is report
-  pub read_to_end : IsAtEnd rest
+  pub read_to_end : AreReadToEnd words rest
   pub front : GetsFront out report
   pub line : Gets err (line_of WriteFault) ⊎ GetsFront err (line_of WriteFault)
 
@@ -115,12 +119,12 @@ pub record LineFailed (May : Status → Type 0) (out err : Change) : Type 0 wher
 
 -- what a write fault leaves, whatever the named files hold
 abbrev pub WriteFailed : List (List ℕ) → (List ℕ → ℕ) → (List ℕ → ℕ) → Option (List ℕ) → Change → Change → Type 0
-WriteFailed words before after rest out err = ReportFailed (λ report. ⊤) rest out err ⊎ LineFailed (MayTell words before after) out err
+WriteFailed words before after rest out err = ReportFailed words (λ report. ⊤) rest out err ⊎ LineFailed (MayTell words before after) out err
 
 -- .. and where they hold this
 abbrev pub WriteFailedOf : List (List ℕ) → Contents → (List ℕ → ℕ) → (List ℕ → ℕ) → Option (List ℕ) → Change → Change → Type 0
 WriteFailedOf words contents before after rest out err =
-    ReportFailed (IsReport words contents) rest out err ⊎ LineFailed (MayTellOf words contents before after) out err
+    ReportFailed words (IsReport words contents) rest out err ⊎ LineFailed (MayTellOf words contents before after) out err
 
 -- what writing the line of a status left: the line of that status, that of want of memory, or a front of one of them
 abbrev pub LineWritten : Change → Status → Status → Type 0
@@ -131,16 +135,17 @@ LineWritten err status result = ((result ≡ status) × Gets err (line_of status
 pub record IsAccepted (words : List (List ℕ)) (contents : Contents) : Type 0 where
   pub options : Options
   pub asked : IsAsked words options
-  pub items : List Item
-  pub input : IsInput contents options items
+  pub program : Program
+  pub input : IsInput contents options program
   pub machine : MachineMeaning
   pub named : IsMachine contents options machine
-  pub body : List Bound
-  pub taken : IsTaken machine (code_of items) (iterations_of options) body
+  pub taken : IsTaken machine program (iterations_of options)
+  pub short : (report : List ℕ) → IsWholeReport machine options program report → length report ≤ MOST_REPORT_BYTES
 
 -- nothing but a failure stands in for the answer that words and contents have
 pub record IsComplete (words : List (List ℕ)) (contents : Contents) (result : Status) : Type 0 where
   pub refused : (status : Status) → IsRefusal words contents status → (result ≡ status) ⊎ IsFailure result
   pub no_assembly : (o : Options) → IsAsked words o → contents o.input ≡ None → IsFailure result
-  pub no_table : (o : Options) (items : List Item) → IsAsked words o → IsInput contents o items → fixed_of o ≡ None → contents o.table ≡ None → IsFailure result
+  pub no_table : (o : Options) (p : Program) → IsAsked words o → IsInput contents o p → fixed_of o ≡ None → contents o.table ≡ None → IsFailure result
   pub accepted : IsAccepted words contents → (result ≡ Done) ⊎ IsFailure result
+  pub load : (seed : ℕ) → IsLoadAsked words seed → (result ≡ Done) ⊎ IsFailure result

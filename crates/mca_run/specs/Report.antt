@@ -1,46 +1,35 @@
--- The report: the summary of the one run of a body.
-use Rattle.std.specs.Prelude.{◌≡◌, ℕ, ◌-◌, max, List, ◌++◌, length, map, replicate, codes, decimal}
+-- The report that words and contents ask for.
+use Rattle.std.specs.Prelude.{ℕ, ◌≤◌, List, length}
 use Rattle.machine_model.specs.Meaning.{MachineMeaning}
-use Rattle.cycle_rules.specs.Bind.{row_of}
-use Rattle.cycle_rules.specs.Run.{IsRun, total_of}
-use Rattle.cycle_rules.specs.declared.bound.Bound.{Bound}
-use Rattle.cycle_rules.specs.declared.times.Times.{Times}
+use Rattle.mca_fixed.specs.declared.limits.TheConstants.{MOST_REPORT_BYTES}
 use Rattle.mca_words.specs.declared.options.Options.{Options}
-use Rattle.rv_asm.specs.declared.item.Item.{Item}
-use Rattle.rv_isa.specs.declared.instr.Instr.{Instr}
-use Rattle.mca_run.specs.Items.{code_of}
-use Rattle.mca_run.specs.Asked.{IsAsked, iterations_of}
+use Rattle.mca_run.specs.Asked.{IsAsked, IsLoadAsked, iterations_of}
+use Rattle.mca_run.specs.LoadReport.{IsLoadReport}
 use Rattle.mca_run.specs.Refusal.{Contents, IsInput, IsMachine, IsTaken}
+use Rattle.mca_run.specs.Whole.{IsWholeReport}
+use Rattle.mca_run.specs.declared.program.Program.{Program}
 
--- a label in a cell of 19 places, and a number
-abbrev pub summary_line : List ℕ → ℕ → List ℕ
-summary_line label n = label ++ replicate (max 1 (19 - length label)) 32 ++ decimal n ++ codes "\n"
-
-abbrev pub summary_lines : ℕ → ℕ → ℕ → List ℕ
-summary_lines iterations rows total = summary_line (codes "Iterations:") iterations ++ summary_line (codes "Instructions:") rows ++ summary_line (codes "Total Cycles:") total
-
--- the report on a body that is bound to a machine, repeated: the summary of its run
-pub record IsCodeReport (m : MachineMeaning) (body : List Bound) (iterations : ℕ) (report : List ℕ) : Type 0 where
-  pub table : List Times
-  pub run : IsRun m (map row_of body) iterations table
-  pub bytes : report ≡ summary_lines iterations (length table) (total_of table)
-
--- the report on a program by a machine
-pub record IsMachineReport (m : MachineMeaning) (code : List Instr) (iterations : ℕ) (report : List ℕ) : Type 0 where
-  pub body : List Bound
-  pub taken : IsTaken m code iterations body
-  pub told : IsCodeReport m body iterations report
+-- the report on a program by a machine that takes it, where it is not too long
+pub record IsMachineReport (m : MachineMeaning) (o : Options) (p : Program) (report : List ℕ) : Type 0 where
+  pub taken : IsTaken m p (iterations_of o)
+  pub whole : IsWholeReport m o p report
+  pub short : length report ≤ MOST_REPORT_BYTES
 
 -- .. by the machine that the options name
-pub record IsRunReport (contents : Contents) (o : Options) (code : List Instr) (report : List ℕ) : Type 0 where
+pub record IsRunReport (contents : Contents) (o : Options) (p : Program) (report : List ℕ) : Type 0 where
   pub machine : MachineMeaning
   pub named : IsMachine contents o machine
-  pub by : IsMachineReport machine code (iterations_of o) report
+  pub by : IsMachineReport machine o p report
 
--- the report that words and contents ask for
-pub record IsReport (words : List (List ℕ)) (contents : Contents) (report : List ℕ) : Type 0 where
+-- the report on the files that the words name
+pub record IsFilesReport (words : List (List ℕ)) (contents : Contents) (report : List ℕ) : Type 0 where
   pub options : Options
   pub asked : IsAsked words options
-  pub items : List Item
-  pub input : IsInput contents options items
-  pub run : IsRunReport contents options (code_of items) report
+  pub program : Program
+  pub input : IsInput contents options program
+  pub run : IsRunReport contents options program report
+
+-- the report that words and contents ask for: on files, or on the program that a number gives
+pub data IsReport (words : List (List ℕ)) (contents : Contents) (report : List ℕ) : Type 0 where
+  of_files : IsFilesReport words contents report → IsReport words contents report
+  of_load : (seed : ℕ) → IsLoadAsked words seed → IsLoadReport seed report → IsReport words contents report

@@ -1,8 +1,15 @@
 -- What each step of the tool answers, by the statuses with which it may stop; words of private contracts alone.
-use Rattle.std.specs.Prelude.{◌≡◌, ℕ, ◌+◌, ◌<◌, ◌⊎◌, List, length, ⊤, None, Some}
+use Rattle.std.specs.Prelude.{◌≡◌, ℕ, ◌+◌, ◌<◌, ◌≤◌, ◌⊎◌, List, [], ◌∷◌, ◌++◌, length, slice_index_or, nat_eq, ⊤, None, Some, Ok, if◌then◌else◌}
+use Rattle.std.specs.List.{All}
+use Rattle.cycle_rules.specs.Bind.{IsBoundBody}
+use Rattle.cycle_rules.specs.declared.bound.Bound.{Bound}
 use Rattle.machine_model.specs.Meaning.{MachineMeaning}
-use Rattle.mca_fixed.specs.declared.limits.TheConstants.{MOST_TEXT_BYTES}
+use Rattle.mca_fixed.specs.declared.limits.TheConstants.{MOST_TEXT_BYTES, MOST_REPORT_BYTES}
 use Rattle.mca_io.specs.Devices.{Told, IfContent}
+use Rattle.mca_views.specs.Lines.{lines}
+use Rattle.mca_views.specs.Page.{Written}
+use Rattle.mca_views.specs.declared.fault.ViewFault.{ViewFault}
+use Rattle.mca_views.specs.declared.fault.ViewFault.TheVariants as no_room
 use Rattle.mca_words.specs.declared.fault.WordFault.{WordFault}
 use Rattle.mca_words.specs.declared.fault.WordKind.{WordKind}
 use Rattle.mca_words.specs.declared.fault.WordKind.TheVariants as word
@@ -10,6 +17,8 @@ use Rattle.mca_words.specs.declared.options.Options.{Options}
 use Rattle.rv_asm.specs.declared.fault.AsmKind.{AsmKind}
 use Rattle.rv_asm.specs.declared.fault.AsmKind.TheVariants as asm
 use Rattle.rv_asm.specs.declared.fault.AsmRefusal.{AsmRefusal}
+use Rattle.region_marks.specs.Marked.{HasRightSize}
+use Rattle.rv_asm.specs.Spellable.{IsSpellable}
 use Rattle.rv_isa.specs.declared.instr.Instr.{Instr}
 use Rattle.sched_checks.specs.Illness.{illness_of}
 use Rattle.sched_checks.specs.declared.illness.IllKind.{IllKind}
@@ -20,11 +29,16 @@ use Rattle.sched_records.specs.declared.records.Record.{Record}
 use Rattle.sched_records.specs.declared.refusal.TableKind.{TableKind}
 use Rattle.sched_records.specs.declared.refusal.TableKind.TheVariants as table
 use Rattle.sched_records.specs.declared.refusal.TableRefusal.{TableRefusal}
+use Rattle.sched_validate.specs.Bind.{bound_code}
 use Rattle.mca_run.specs.Asked.{IsWordFault}
 use Rattle.mca_run.specs.Machines.{fixed_of}
 use Rattle.mca_run.specs.Refusal.{Contents, WhereTold, IsTextFault, IsCodeRefusal, IsRefusal, IfRefused}
+use Rattle.mca_run.specs.Regions.{code_at}
+use Rattle.mca_run.specs.Whole.{IsRegionReport, IsWholeReport}
 use Rattle.mca_run.specs.Outcome.{NamedFault, NamedInOrder}
+use Rattle.mca_run.specs.declared.program.Program.{Program}
 use Rattle.mca_run.specs.declared.status.LimitKind.{LimitKind}
+use Rattle.mca_run.specs.declared.status.LimitKind.TheVariants.{ReportBytes}
 use Rattle.mca_run.specs.declared.status.Status.{Status}
 use Rattle.mca_run.specs.declared.status.Status.TheVariants.{Words, Assembly, Table, Machine, Limit, ReadFault, Memory}
 use Rattle.mca_run.specs.declared.status.MachineRefusal.TheVariants as machine
@@ -46,6 +60,10 @@ table_status refusal kind = Table refusal
 abbrev pub ill_status : ℕ → IllKind → Status
 ill_status number ill.Memory = Memory
 ill_status number kind = Machine (machine.Record number kind)
+
+abbrev pub view_status : ViewFault → Status
+view_status no_room.TooLong = Limit ReportBytes (MOST_REPORT_BYTES + 1)
+view_status no_room.Memory = Memory
 
 -- The statuses with which a step may stop
 
@@ -79,12 +97,12 @@ MayRefuseRecords records (Machine (machine.Record number kind)) = illness_of (en
 MayRefuseRecords records Memory = ⊤
 MayRefuseRecords records _ = ⊥
 
--- a machine refuses instructions
-abbrev pub MayRefuseCode : MachineMeaning → List Instr → ℕ → Status → Type 0
-MayRefuseCode m code iterations (Machine refusal) = IsCodeRefusal m code iterations (Machine refusal)
-MayRefuseCode m code iterations (Limit kind n) = IsCodeRefusal m code iterations (Limit kind n)
-MayRefuseCode m code iterations Memory = ⊤
-MayRefuseCode m code iterations _ = ⊥
+-- a machine refuses a program
+abbrev pub MayRefuseCode : MachineMeaning → Options → Program → Status → Type 0
+MayRefuseCode m o p (Machine refusal) = IsCodeRefusal m o p (Machine refusal)
+MayRefuseCode m o p (Limit kind n) = IsCodeRefusal m o p (Limit kind n)
+MayRefuseCode m o p Memory = ⊤
+MayRefuseCode m o p _ = ⊥
 
 -- a shelf tells the content of a name
 abbrev pub TellsName : (List ℕ → Told) → Contents → List ℕ → Type 0
@@ -106,3 +124,39 @@ pub record IsStopped (words : List (List ℕ)) (told : List ℕ → Told) (befor
 abbrev pub IsOfFiles : Status → Type 0
 IsOfFiles (Words fault) = ⊥
 IsOfFiles _ = ⊤
+
+-- What the steps of a machine know, and what they leave
+
+-- regions lie within the instructions of a program and have few of them, and each instruction can be spelled
+pub record IsSound (p : Program) : Type 0 where
+  pub sizes : All HasRightSize p.regions
+  pub within : All (λ r. r.first + r.count ≤ length p.code) p.regions
+  pub spellable : All (IsSpellable p.names) p.code
+
+-- what binding the instructions of a region gives
+pub record IsBodyOf (m : MachineMeaning) (code : List Instr) (body : List Bound) : Type 0 where
+  pub exact : bound_code m code ≡ Ok body
+  pub bound : IsBoundBody m body
+  pub many : length body ≡ length code
+
+abbrev pub body_at : List (List Bound) → ℕ → List Bound
+body_at bodies k = slice_index_or bodies k []
+
+-- the bodies of the first regions
+pub record AreBodies (m : MachineMeaning) (p : Program) (k : ℕ) (bodies : List (List Bound)) : Type 0 where
+  pub count : length bodies ≡ k
+  pub each : (j : ℕ) → j < k → IsBodyOf m (code_at p j) (body_at bodies j)
+
+-- the empty line before the report of each region but the first
+abbrev pub gap : ℕ → List (List ℕ)
+gap k = if nat_eq k 0 then [] else [] ∷ []
+
+-- a page has no room for the report of a region; or there was no memory
+abbrev pub IsOver : MachineMeaning → Options → Program → ℕ → Written → ViewFault → Type 0
+IsOver m o p k page no_room.TooLong = (report : List (List ℕ)) × IsRegionReport m o p k report × (page.room < length (page.text ++ lines (gap k ++ report)))
+IsOver m o p k page no_room.Memory = ⊤
+
+-- the whole report is too long; or there was no memory
+abbrev pub IsOverAll : MachineMeaning → Options → Program → ViewFault → Type 0
+IsOverAll m o p no_room.TooLong = (report : List ℕ) × IsWholeReport m o p report × (MOST_REPORT_BYTES < length report)
+IsOverAll m o p no_room.Memory = ⊤

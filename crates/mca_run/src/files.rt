@@ -1,19 +1,22 @@
 //! The two files that the options name.
-ghost use Rattle.std.specs.Prelude.{◌≡◌, ◌≤◌, ◌<◌, ℕ, List, length, IfOk, IfErr, OnOk, None};
+ghost use Rattle.std.specs.Prelude.{◌≡◌, ◌≤◌, ◌<◌, ℕ, List, length, Ok, IfOk, IfErr, OnOk};
 ghost use Rattle.std.specs.Io.KnownBytes.{IsAtEnd};
 ghost use Rattle.mca_io.specs.Devices.{IfContent, Rose};
+ghost use Rattle.region_marks.specs.Marked.{code_of};
+ghost use Rattle.region_marks.specs.Regions.{regions_of};
 ghost use Rattle.rv_asm.specs.Program.{IsProgram};
+ghost use Rattle.rv_asm.specs.declared.item.Item.{Item};
 ghost use Rattle.sched_records.specs.Table.{HasRecords};
 ghost use Rattle.mca_run.specs.Refusal.{Contents, IsInput, IsTable, IsAsmRefusal, IsTableRefusal, IfRefused};
-ghost use Rattle.mca_run.specs.Steps.{TellsName, IsUnread, MayRefuseText, MayRefuseRecordsOf, IsOfFiles};
-ghost use Rattle.mca_run.specs.Items.{items_fault, code_of, AreLawful};
+ghost use Rattle.mca_run.specs.Steps.{TellsName, IsUnread, MayRefuseText, MayRefuseRecordsOf, IsOfFiles, IsSound};
 
-use crate::items::items_fault;
+use crate::program::{Program, code};
 use crate::status::{LimitKind, Status};
 use crate::stop::Stop;
-use mca_fixed::{MOST_REGION_INSTRUCTIONS, MOST_TEXT_BYTES};
+use mca_fixed::{Items, MOST_TEXT_BYTES};
 use mca_io::{ReadFault, Shelf, read_named};
 use mca_words::Options;
+use region_marks::regions;
 use rv_asm::{AsmText, read_asm};
 use sched_records::{MOST_RECORDS, Records, read_table};
 use std::alloc::Global;
@@ -44,21 +47,22 @@ fn content<F: Shelf>(
 }
 
 /// The program of an assembly text, or the status that refuses it.
-fn program(alloc: Global, text: &[u8]) -> Result<AsmText, Stop>
+fn program(alloc: Global, text: &[u8]) -> Result<Program, Stop>
     requires { length text.now ≤ MOST_TEXT_BYTES }
-    ensures program { IfOk result (λ asm. IsProgram text.now asm.items asm.names) }
-    ensures lawful { IfOk result (λ asm. items_fault asm.items ≡ None) }
-    ensures some { IfOk result (λ asm. 0 < length asm.items) }
-    ensures few { IfOk result (λ asm. length asm.items ≤ MOST_REGION_INSTRUCTIONS) }
-    ensures all { IfOk result (λ asm. length (code_of asm.items) ≡ length asm.items) }
-    ensures instructions { IfOk result (λ asm. AreLawful (code_of asm.items)) }
+    ensures ok { IfOk result (λ p. (items : List Item) × IsProgram text.now items p.names
+        × (p.code ≡ code_of items) × (regions_of items ≡ Ok p.regions)) }
+    ensures sound { IfOk result IsSound }
     ensures err { IfErr result (λ stop. MayRefuseText text.now stop.status) }
 {
     let asm = read_asm(alloc, text)?;
-    match items_fault(&asm.items) {
-        Some(refusal) => Err(Stop::from(refusal)),
-        None => Ok(asm),
-    }
+    let regions = regions(alloc, &asm)?;
+    let code = code(alloc, &asm.items)?;
+    let AsmText { names, .. } = asm;
+    Ok(Program {
+        code: Items::from_vec(code),
+        regions: Items::from_vec(regions),
+        names,
+    })
 }
 
 /// Reads the assembly.
@@ -66,14 +70,11 @@ pub(crate) fn read_assembly<F: Shelf>(
     alloc: Global,
     options: &Options,
     shelf: &mut F,
-) -> Result<AsmText, Stop>
-    ensures ok { IfOk result (λ asm. (contents : Contents) → TellsName (F.told shelf.old) contents options.now.input →
-        IsInput contents options.now asm.items) }
+) -> Result<Program, Stop>
+    ensures ok { IfOk result (λ p. (contents : Contents) → TellsName (F.told shelf.old) contents options.now.input →
+        IsInput contents options.now p) }
     ensures end { OnOk result (IsAtEnd (F.rest shelf.new)) }
-    ensures some { IfOk result (λ asm. 0 < length asm.items) }
-    ensures few { IfOk result (λ asm. length asm.items ≤ MOST_REGION_INSTRUCTIONS) }
-    ensures all { IfOk result (λ asm. length (code_of asm.items) ≡ length asm.items) }
-    ensures instructions { IfOk result (λ asm. AreLawful (code_of asm.items)) }
+    ensures sound { IfOk result IsSound }
     ensures err { IfErr result (λ stop. (contents : Contents) → TellsName (F.told shelf.old) contents options.now.input →
         IfRefused (IsAsmRefusal contents options.now) stop.status) }
     ensures of_files { IfErr result (λ stop. IsOfFiles stop.status) }

@@ -17,8 +17,10 @@ pub enum LimitKind {
     AssemblyBytes,
     /// The bytes of the table, 8,388,608.
     TableBytes,
-    /// The rows of a run, instructions times iterations, 1,048,576.
+    /// The rows of a region's run, instructions times iterations, 1,048,576.
     RunSize,
+    /// The bytes of the report, 67,108,864.
+    ReportBytes,
 }
 
 impl LimitKind {
@@ -30,6 +32,7 @@ impl LimitKind {
             LimitKind::AssemblyBytes => "AssemblyBytes",
             LimitKind::TableBytes => "TableBytes",
             LimitKind::RunSize => "RunSize",
+            LimitKind::ReportBytes => "ReportBytes",
         }
     }
 }
@@ -78,7 +81,7 @@ pub enum Status {
     Table(TableRefusal),
     /// The machine was refused, or it refused the program.
     Machine(MachineRefusal),
-    /// An input passed a limit: a file, with the limit plus one; a run, with its rows.
+    /// A limit was passed: by a file or the report, with the limit plus one; by a run, with its rows.
     Limit(LimitKind, u64),
     /// A named file could not be read.
     ReadFault,

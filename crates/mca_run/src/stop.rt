@@ -2,13 +2,15 @@
 ghost use Rattle.std.specs.Prelude.{◌≡◌, true};
 ghost use Rattle.mca_run.specs.Stop.{is_stop};
 
-use crate::status::{MachineRefusal, OpKind, Status};
-use mca_fixed::NoMemory;
+use crate::status::{LimitKind, MachineRefusal, OpKind, Status};
+use mca_fixed::{MOST_REPORT_BYTES, NoMemory};
+use mca_views::ViewFault;
 use mca_words::{WordFault, WordKind};
 use rv_asm::{AsmKind, AsmRefusal};
 use sched_checks::{IllKind, TableIllness};
 use sched_records::{TableKind, TableRefusal};
 use sched_validate::BindFault;
+use std::alloc::{AllocError, AllocFailed};
 
 /// Why there is no report: a status that refuses the input, a read fault or want of memory. It is neither `Done` nor
 /// `WriteFault`, and no refusal in it tells of want of memory.
@@ -24,6 +26,30 @@ impl From<NoMemory> for Stop {
     ghost from_gives = { λ _ stop. stop.status ≡ Memory };
 
     fn from(_: NoMemory) -> Stop {
+        Stop {
+            status: Status::Memory,
+        }
+    }
+}
+
+impl From<AllocError> for Stop {
+    ghost use Rattle.mca_run.specs.declared.status.Status.TheVariants.{Memory};
+
+    ghost from_gives = { λ _ stop. stop.status ≡ Memory };
+
+    fn from(_: AllocError) -> Stop {
+        Stop {
+            status: Status::Memory,
+        }
+    }
+}
+
+impl<T: Drop> From<AllocFailed<T>> for Stop {
+    ghost use Rattle.mca_run.specs.declared.status.Status.TheVariants.{Memory};
+
+    ghost from_gives = { λ _ stop. stop.status ≡ Memory };
+
+    fn from(_: AllocFailed<T>) -> Stop {
         Stop {
             status: Status::Memory,
         }
@@ -112,6 +138,22 @@ impl From<BindFault> for Stop {
                 Status::Machine(MachineRefusal::Opcode(op, OpKind::UnsupportedOp))
             }
             BindFault::Memory => Status::Memory,
+        };
+        Stop { status }
+    }
+}
+
+impl From<ViewFault> for Stop {
+    ghost use Rattle.mca_run.specs.Steps.{view_status};
+
+    ghost from_gives = { λ fault stop. stop.status ≡ view_status fault };
+
+    fn from(fault: ViewFault) -> Stop {
+        let status = match fault {
+            ViewFault::TooLong => {
+                Status::Limit(LimitKind::ReportBytes, MOST_REPORT_BYTES as u64 + 1)
+            }
+            ViewFault::Memory => Status::Memory,
         };
         Stop { status }
     }

@@ -27,7 +27,7 @@ returns-in_err-text-clause-fault g c =
 pub returns-clause-ok : goal.returns-clause-ok
 returns-clause-ok g c = program_ok (g.F.Shelf.told c.args.shelf.now) c.args.options.now c.deref.result.now c.program.result (rw c.deref.ensures.value c.in_ok-text.ensures.short)
     (rw c.deref.ensures.value (subst (λ name. IfContent (g.F.Shelf.told c.args.shelf.now name) (λ content. c.in_ok-text.text.items ≡ content)) c.as_str.ensures c.in_ok-text.ensures.content))
-    c.program.ensures.program c.program.ensures.lawful
+    c.program.ensures.ok
 
 pub returns-clause-err : goal.returns-clause-err
 returns-clause-err g c = program_err (λ (s : Stop). s.status) (g.F.Shelf.told c.args.shelf.now) c.args.options.now c.deref.result.now c.program.result (rw c.deref.ensures.value c.in_ok-text.ensures.short)

@@ -1,7 +1,5 @@
-use Rattle.std.proofs.Common.{refl, subst, sym, ◌∙◌, map, string_bytes}
+use Rattle.std.proofs.Common.{map, string_bytes}
 use Rattle.std.proofs.lemmas.Result.{err_from_is_err_and}
-use Rattle.mca_run.specs.Asked.{unbuilt}
-use Rattle.mca_run.specs.Steps.{MayRefuseWords}
 use Rattle.mca_words.proofs.InRange.{in_range}
 use Rattle.mca_run.proofs.OfKinds.{words_may}
 use Rattle.mca_run.proofs.options.read_options.Goals as goal
@@ -13,7 +11,3 @@ returns-in_err-options-clause-err c =
 
 pub returns-clause-in_range : goal.returns-clause-in_range
 returns-clause-in_range c = in_range (map string_bytes c.args.words.now) c.in_ok-options.options c.in_ok-options.ensures.answer
-
-pub returns-then-is_unbuilt-clause-err : goal.returns-then-is_unbuilt-clause-err
-returns-then-is_unbuilt-clause-err c = subst (MayRefuseWords (map string_bytes c.args.words.now)) (sym c.from.ensures)
-    (unbuilt c.in_ok-options.options c.in_ok-options.ensures.answer (sym c.is_unbuilt.ensures ∙ c.if-is_unbuilt.true) refl)

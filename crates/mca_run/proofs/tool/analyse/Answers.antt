@@ -1,6 +1,6 @@
 use Rattle.std.proofs.Common.{inl, inr, subst, map, string_bytes, refl}
 use Rattle.mca_run.specs.Lines.{line_of}
-use Rattle.mca_run.specs.Outcome.{GetsFront, MayTell, MayTellOf}
+use Rattle.mca_run.specs.Outcome.{Gets, GetsFront, MayTell, MayTellOf}
 use Rattle.mca_run.specs.Refusal.{IsRefusal}
 use Rattle.mca_run.specs.declared.status.Status.TheVariants.{WriteFault}
 use Rattle.mca_run.proofs.Outcomes.{done_complete, failure_complete, line_or_front, keeps_same, tell_complete, tell_refused, tell_plain, tell_words, tell_read, tell_not_done, tell_first, tell_rose, tell_line, tell_failed, stop_may, stop_may_of}
@@ -66,7 +66,14 @@ pub returns-in-Ok-write_whole-clause-no_error : goal.returns-in-Ok-write_whole-c
 returns-in-Ok-write_whole-clause-no_error g c = λ e. keeps_same (g.E.Sink.told c.args.err.now).contents
 
 pub returns-in-Ok-write_whole-clause-completeness : goal.returns-in-Ok-write_whole-clause-completeness
-returns-in-Ok-write_whole-clause-completeness g c = λ files tells. done_complete (map string_bytes c.args.words.now) files (string_bytes c.in-Ok.text) (c.in-Ok.ensures.ok files tells)
+returns-in-Ok-write_whole-clause-completeness g c = λ files tells. done_complete (map string_bytes c.args.words.now) files (c.in-Ok.report.items) (c.in-Ok.ensures.ok files tells)
+
+pub returns-in-Ok-write_whole-clause-done : goal.returns-in-Ok-write_whole-clause-done
+returns-in-Ok-write_whole-clause-done g c = λ files tells e. record {
+  report = c.in-Ok.report.items;
+  is = c.in-Ok.ensures.ok files tells;
+  bytes = subst (Gets (g.O.Sink.told c.args.out.now, g.O.Sink.told c.write_whole.new.sink)) c.as_slice.ensures.value c.in-Ok-write_whole.ensures.whole;
+}
 
 -- Writing it failed
 
@@ -75,10 +82,10 @@ returns-clause-completeness g c = λ files tells. failure_complete (map string_b
 
 pub returns-clause-after_write_fault : goal.returns-clause-after_write_fault
 returns-clause-after_write_fault g c = λ is. inl (record {
-  report = string_bytes c.in-Ok.text;
+  report = c.in-Ok.report.items;
   is = tt;
   read_to_end = c.in-Ok.ensures.end;
-  front = subst (GetsFront (g.O.Sink.told c.args.out.now, g.O.Sink.told c.write_whole.new.sink)) c.as_bytes.ensures.value (record {
+  front = subst (GetsFront (g.O.Sink.told c.args.out.now, g.O.Sink.told c.write_whole.new.sink)) c.as_slice.ensures.value (record {
     count = c.in-Err-write_whole.ensures.front.0;
     proper = c.in-Err-write_whole.ensures.front.1;
     front = c.in-Err-write_whole.ensures.front.2;
@@ -90,10 +97,10 @@ returns-clause-after_write_fault g c = λ is. inl (record {
 
 pub returns-clause-after_write_fault_of : goal.returns-clause-after_write_fault_of
 returns-clause-after_write_fault_of g c = λ files tells is. inl (record {
-  report = string_bytes c.in-Ok.text;
+  report = c.in-Ok.report.items;
   is = c.in-Ok.ensures.ok files tells;
   read_to_end = c.in-Ok.ensures.end;
-  front = subst (GetsFront (g.O.Sink.told c.args.out.now, g.O.Sink.told c.write_whole.new.sink)) c.as_bytes.ensures.value (record {
+  front = subst (GetsFront (g.O.Sink.told c.args.out.now, g.O.Sink.told c.write_whole.new.sink)) c.as_slice.ensures.value (record {
     count = c.in-Err-write_whole.ensures.front.0;
     proper = c.in-Err-write_whole.ensures.front.1;
     front = c.in-Err-write_whole.ensures.front.2;

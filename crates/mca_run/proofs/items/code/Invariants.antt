@@ -1,6 +1,0 @@
-use Rattle.std.proofs.Common.{◌≡◌, ◌++◌, drop}
-use Rattle.mca_run.specs.Items.{code_of}
-use Rattle.mca_run.proofs.items.code.Given as goal
-
-abbrev pub invariant-loop-k : goal.invariant-loop-k
-invariant-loop-k l = l.code.items ++ code_of (drop l.k l.items) ≡ code_of l.items
