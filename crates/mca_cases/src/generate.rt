@@ -42,6 +42,23 @@ fn put_bytes(alloc: Global, made: &mut Vec<u8>, rule: &str) -> Result<(), Fault>
     Ok(())
 }
 
+/// `N 0xNN`: the byte so often.
+fn fill(alloc: Global, made: &mut Vec<u8>, rule: &str) -> Result<(), Fault> {
+    let (count, byte) = rule.split_once(' ').unwrap_or((rule, ""));
+    match (
+        count.parse::<u32>(),
+        u8::from_str_radix(byte.strip_prefix("0x").unwrap_or(""), 16),
+    ) {
+        (Ok(count), Ok(byte)) if count as usize <= MOST_LINES => {
+            for _ in 0..count {
+                made.push(byte)?;
+            }
+            Ok(())
+        }
+        _ => Err(wrong(alloc, "no number and byte", rule)),
+    }
+}
+
 /// What was made, with a line in place of each one that is this line.
 fn with_line(alloc: Global, made: &[u8], rule: &str) -> Result<Vec<u8>, Fault> {
     let Some((line, by)) = rule.split_once(" by ") else {
@@ -80,6 +97,7 @@ fn put_rule(
         }
         "repeat" => put_lines(alloc, made, rest),
         "bytes" => put_bytes(alloc, made, rest),
+        "fill" => fill(alloc, made, rest),
         "use" => {
             made.extend_from_slice(&data.content(rest)?)?;
             Ok(())

@@ -1,18 +1,19 @@
 //! Tests by files: whole commands, and public calls of the crates below. The words are the names of lists, and a list
 //! has the names of case files, one a line, that lie in its folder; docs/cases.md tells how a case is written. Each
-//! case that differs is told, with what was wanted and what came, and for each list how many cases ran. The names in a
-//! list `examples.txt` are those of tables and assemblies, which are read whole. The words from `with` on are passed over.
+//! case that differs is told, with what was wanted and what came, and for each list how many cases ran. The words from
+//! `with` on are passed over.
 #![tactic(auto)]
 
 mod archive;
 mod calls;
 mod case;
 mod command;
-mod examples;
 mod fault;
 mod findings;
 mod folder;
 mod generate;
+mod inputs;
+mod times;
 
 use case::Case;
 use fault::{Fault, wrong};
@@ -92,11 +93,7 @@ fn run_list(
         return Err(wrong(alloc, "not in UTF-8", list));
     };
     println!(rt; "{list}")?;
-    if list == "examples.txt" {
-        examples::tell(rt, alloc, data, names.as_str())
-    } else {
-        run_cases(rt, alloc, data, names.as_str())
-    }
+    run_cases(rt, alloc, data, names.as_str())
 }
 
 fn main(rt: HostRuntime) -> Result<(), Fault> {

@@ -1,7 +1,7 @@
 //! The calls of `mca_words`. Words are written with commas between them.
 use crate::case::Case;
 use crate::fault::{Fault, wrong};
-use mca_words::{Options, is_unbuilt, read_words};
+use mca_words::{Options, read_words};
 use std::alloc::Global;
 use std::fmt::Write;
 
@@ -9,7 +9,6 @@ use std::fmt::Write;
 pub(crate) fn answer(alloc: Global, call: &str, case: &Case) -> Result<Option<String>, Fault> {
     match call {
         "read_words" => Ok(Some(options_of(alloc, case.input("words")?)?)),
-        "is_unbuilt" => Ok(Some(unbuilt(alloc, case.input("words")?)?)),
         _ => Ok(None),
     }
 }
@@ -65,17 +64,8 @@ fn put_options(out: &mut String, o: &Options) -> Result<(), Fault> {
     }
     let bottlenecks = o.bottleneck_analysis;
     write!(out, "{bottlenecks}|{input}")?;
+    if let Some(seed) = o.load {
+        write!(out, "|{seed}")?;
+    }
     Ok(())
-}
-
-/// Whether words ask for what is not built yet.
-fn unbuilt(alloc: Global, text: &[u8]) -> Result<String, Fault> {
-    let words = words_of(alloc, text)?;
-    let Ok(options) = read_words(alloc, &words) else {
-        return Err(wrong(alloc, "words with a fault", "words"));
-    };
-    let mut out = String::new(alloc);
-    let unbuilt = is_unbuilt(&options);
-    write!(&mut out, "{unbuilt}")?;
-    Ok(out)
 }
