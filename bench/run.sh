@@ -27,7 +27,7 @@ awk 'BEGIN { for (i = 0; i < 932000; i++) printf "j _%05x\n", i }' > "$work/symb
 # memory_of FILE TABLE: the most memory that a run held, in MiB.
 memory_of() {
     [ -x /usr/bin/time ] || { echo -; return; }
-    /usr/bin/time -f %M -o "$work/memory" "$program" "-table=$2" "$1" >/dev/null 2>&1
+    /usr/bin/time -f %M -o "$work/memory" "$program" "-table=$2" -instruction-info=false -resource-pressure=false "$1" >/dev/null 2>&1
     tail -n 1 "$work/memory" | awk '{ printf "%.1f MiB", $1 / 1024 }'
 }
 
@@ -36,7 +36,7 @@ time_of() {
     best=
     for run in 1 2 3 4 5; do
         start=$(date +%s%N)
-        "$program" "-table=${3:-$top/examples/b.td}" "$2" >/dev/null 2>&1
+        "$program" "-table=${3:-$top/examples/b.td}" -instruction-info=false -resource-pressure=false "$2" >/dev/null 2>&1
         status=$?
         end=$(date +%s%N)
         took=$(( (end - start) / 10000 ))

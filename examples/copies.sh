@@ -5,17 +5,18 @@ cd "$(dirname "$0")/.." || exit 1
 make=${1-}
 bad=0
 
-# compare FILE CRATE: the crate has a copy of the file, by its name below examples/ or by its whole name.
+# compare FILE CRATE [COPY]: the crate has a copy of the file, by its name below examples/, its whole name, or that of the copy.
 compare() {
-    copy=crates/$2/data/${1#examples/}
+    copy=crates/$2/data/${3-${1#examples/}}
     [ "$make" = make ] && cp "$1" "$copy"
     cmp -s "$1" "$copy" || { echo "$1: $copy differs"; bad=1; }
 }
 
+compare examples/two-wide.td mca_cases tables/two-wide.td
 for file in examples/each.s examples/kernels/*.s machines/*.td; do
     compare "$file" mca_cases
 done
-for file in examples/add.s examples/b.td; do
+for file in examples/add.s examples/two-wide.td; do
     compare "$file" mca_cli
 done
 exit $bad
