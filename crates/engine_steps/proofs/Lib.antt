@@ -7,5 +7,6 @@ pub mod Wakes
 pub mod Refusals
 pub mod Enters
 pub mod Producers
+pub mod LastWriters
 pub mod Operands
 pub mod Bodies

@@ -24,6 +24,17 @@ pub record IsBack (body : List Row) (p r back : ℕ) : Type 0 where
   pub writes : (back ≡ 0 → ⊥) → rd_at body ((p + length body - back) % length body) ≡ r
   pub last : (e : ℕ) → 1 ≤ e → e ≤ length body → ((back ≡ 0 → ⊥) → e < back) → rd_at body ((p + length body - e) % length body) ≡ r → ⊥
 
+-- of the first n rows of the body, repeated, row x - 1 is the last that writes a register; x is 0 where no row writes it
+pub record IsLast (body : List Row) (n r x : ℕ) : Type 0 where
+  pub within : x ≤ n
+  pub writes : (x ≡ 0 → ⊥) → rd_at body ((x - 1) % length body) ≡ r
+  pub last : (k : ℕ) → x ≤ k → k < n → rd_at body (k % length body) ≡ r → ⊥
+
+-- so it is kept of each register
+pub record AreLast (body : List Row) (n : ℕ) (last : List ℕ) : Type 0 where
+  pub size : length last ≡ 32
+  pub each : (r : ℕ) → r < 32 → IsLast body n r (slice_index_or last r 0)
+
 -- row j can read in cycle c the value of the row that a link names; where there is none, it was there before
 abbrev pub is_there : Table → ℕ → ℕ → Link → Bool
 is_there t j c link = nat_eq link.back 0 || (nat_lt j link.back || nat_le ((t (j - link.back)).issue + link.lead) c)

@@ -1,9 +1,9 @@
 //! Where the values that an instruction reads come from: how many rows back, and how long they take.
-ghost use Rattle.std.specs.Prelude.{◌≡◌, ◌<◌, ◌≤◌, length, map, slice_index_or, true};
+ghost use Rattle.std.specs.Prelude.{◌≡◌, ◌<◌, ◌≤◌, ◌+◌, ◌*◌, ◌%◌, List, length, map, slice_index_or, true};
 ghost use Rattle.std.specs.List.{list_all};
 ghost use Rattle.cycle_rules.specs.Bind.{row_of, has_class, AreBound, IsBound};
-ghost use Rattle.cycle_rules.specs.Row.{no_row};
-ghost use Rattle.engine_steps.specs.Links.{IsBack, IsLink, AreLinks, no_source};
+ghost use Rattle.cycle_rules.specs.Row.{Row, no_row};
+ghost use Rattle.engine_steps.specs.Links.{IsBack, IsLink, AreLinks, AreLast, rd_at, no_source};
 
 use cycle_rules::{Bound, Source, lead};
 use machine_model::Machine;
@@ -26,28 +26,83 @@ pub struct Links {
     pub second: Link,
 }
 
-/// The links of the instruction at a place of the body.
-pub fn links_at<M: Machine>(machine: &M, body: &[Bound], place: usize) -> Links
+/// Of each register the last row that wrote it, while the rows of a body that is repeated go by.
+#[derive(Drop)]
+pub struct Writers {
+    // One more than the row's number; 0 where no row wrote the register.
+    pub last: [usize; 32],
+}
+
+// No register has been written.
+fn no_rows() -> [usize; 32]
+    ensures { (body : List Row) → AreLast body 0 result }
+{
+    [0; 32]
+}
+
+impl Writers {
+    /// Before the first row.
+    pub fn none() -> Writers
+        ensures { (body : List Row) → AreLast body 0 result.last }
+    {
+        Writers { last: no_rows() }
+    }
+
+    /// Lets a row go by that writes a register.
+    pub fn note(&mut self, row: usize, rd: Reg)
+        requires { row < 2 * MOST_ROWS }
+        ensures { (body : List Row) → rd_at body (row % length body) ≡ rd →
+            AreLast body row self.old.last → AreLast body (row + 1) self.new.last }
+    {
+        self.last[rd.number() as usize] = row + 1;
+    }
+
+    // How many rows before a place of the body a register was written last, when all rows of the
+    // iteration before have gone by; 0 where no instruction writes it.
+    fn rows_back(&self, body: &[Bound], place: usize, reg: Reg) -> usize
+        requires place { place < length body.now }
+        requires few { length body.now ≤ MOST_ROWS }
+        requires last { AreLast (map row_of body.now) (length body.now + place) self.now.last }
+        ensures { IsBack (map row_of body.now) place reg result }
+    {
+        let last = self.last[reg.number() as usize];
+        if last == 0 {
+            return 0;
+        }
+        body.len() + place + 1 - last
+    }
+}
+
+/// The links of the instruction at a place of the body, by the last writers before it.
+pub fn links_at<M: Machine>(machine: &M, body: &[Bound], place: usize, writers: &Writers) -> Links
     requires bound { AreBound (M.meaning machine.now) body.now }
     requires place { place < length body.now }
     requires few { length body.now ≤ MOST_ROWS }
+    requires last { AreLast (map row_of body.now) (length body.now + place) writers.now.last }
     ensures { AreLinks (M.meaning machine.now) (map row_of body.now) place result }
 {
-    links_of(machine, body, place, &body[place])
+    links_of(machine, body, place, writers, &body[place])
 }
 
 // The same, by the instruction.
-fn links_of<M: Machine>(machine: &M, body: &[Bound], place: usize, b: &Bound) -> Links
+fn links_of<M: Machine>(
+    machine: &M,
+    body: &[Bound],
+    place: usize,
+    writers: &Writers,
+    b: &Bound,
+) -> Links
     requires bound { AreBound (M.meaning machine.now) body.now }
     requires place { place < length body.now }
     requires few { length body.now ≤ MOST_ROWS }
+    requires last { AreLast (map row_of body.now) (length body.now + place) writers.now.last }
     requires here { row_of b.now ≡ slice_index_or (map row_of body.now) place no_row }
     requires b { IsBound (M.meaning machine.now) b.now }
     ensures { AreLinks (M.meaning machine.now) (map row_of body.now) place result }
 {
     let reads = &b.reads[..b.read_count as usize];
-    let first = link_of(machine, body, place, reads, 0);
-    let second = link_of(machine, body, place, reads, 1);
+    let first = link_of(machine, body, place, writers, reads, 0);
+    let second = link_of(machine, body, place, writers, reads, 1);
     Links { first, second }
 }
 
@@ -56,12 +111,14 @@ fn link_of<M: Machine>(
     machine: &M,
     body: &[Bound],
     place: usize,
+    writers: &Writers,
     reads: &[Source],
     k: usize,
 ) -> Link
     requires bound { AreBound (M.meaning machine.now) body.now }
     requires place { place < length body.now }
     requires few { length body.now ≤ MOST_ROWS }
+    requires last { AreLast (map row_of body.now) (length body.now + place) writers.now.last }
     requires classes { list_all (has_class (M.meaning machine.now)) reads.now ≡ true }
     ensures some { k < length reads.now →
         IsLink (M.meaning machine.now) (map row_of body.now) place
@@ -71,21 +128,28 @@ fn link_of<M: Machine>(
     if k >= reads.len() {
         return Link { back: 0, lead: 0 };
     }
-    link_to(machine, body, place, reads[k])
+    let read = reads[k];
+    link_to(
+        machine,
+        body,
+        place,
+        read,
+        writers.rows_back(body, place, read.reg),
+    )
 }
 
-// The link of a read.
-fn link_to<M: Machine>(machine: &M, body: &[Bound], place: usize, read: Source) -> Link
+// The link of a read, by how many rows back its register was written last.
+fn link_to<M: Machine>(machine: &M, body: &[Bound], place: usize, read: Source, back: usize) -> Link
     requires bound { AreBound (M.meaning machine.now) body.now }
     requires place { place < length body.now }
     requires few { length body.now ≤ MOST_ROWS }
+    requires back { IsBack (map row_of body.now) place read.reg back }
     requires class { has_class (M.meaning machine.now) read ≡ true }
     ensures { IsLink (M.meaning machine.now) (map row_of body.now) place read result }
 {
     if read.reg.number() == 0 {
         return Link { back: 0, lead: 0 };
     }
-    let back = rows_back(body, place, read.reg);
     if back == 0 {
         return Link { back: 0, lead: 0 };
     }
@@ -94,19 +158,4 @@ fn link_to<M: Machine>(machine: &M, body: &[Bound], place: usize, read: Source) 
         back: back as u32,
         lead: lead(machine, read.read, from),
     }
-}
-
-// How many rows before a place of the body, iteration after iteration, a register was written last; 0 where
-// no instruction writes it.
-fn rows_back(body: &[Bound], place: usize, reg: Reg) -> usize
-    requires place { place < length body.now }
-    requires few { length body.now ≤ MOST_ROWS }
-    ensures { IsBack (map row_of body.now) place reg result }
-{
-    for back in 1..body.len() + 1 {
-        if body[(place + body.len() - back) % body.len()].rd.number() == reg.number() {
-            return back;
-        }
-    }
-    0
 }

@@ -7,9 +7,9 @@ ghost use Rattle.event_rules.specs.Due.{later};
 ghost use Rattle.cycle_rules.specs.Row.{times};
 ghost use Rattle.mca_fixed.specs.declared.limits.TheConstants.{MOST_ROWS};
 ghost use Rattle.engine_state.specs.State.{never};
-ghost use Rattle.engine_steps.specs.Links.{AllLinks, was_there, after, link_from, link_lacks};
+ghost use Rattle.engine_steps.specs.Links.{AllLinks, AreLast, was_there, after, link_from, link_lacks};
 
-use crate::links::{Link, Links, links_at};
+use crate::links::{Link, Links, Writers, links_at};
 use crate::rows::Rows;
 use cycle_rules::{Bound, Times};
 use machine_model::Machine;
@@ -32,6 +32,18 @@ pub struct Plan<'a, M: Machine> {
         (length body.now) links.items },
 }
 
+// The last writers when the rows of one iteration have gone by.
+fn writers_once(body: &[Bound]) -> Writers
+    requires { length body.now ≤ MOST_ROWS }
+    ensures { AreLast (map row_of body.now) (length body.now) result.last }
+{
+    let mut writers = Writers::none();
+    for place in 0..body.len() {
+        writers.note(place, body[place].rd);
+    }
+    writers
+}
+
 // The links of all instructions of a body.
 fn all_links<M: Machine>(alloc: Global, machine: &M, body: &[Bound]) -> Result<Vec<Links>, NoMemory>
     requires bound { AreBound (M.meaning machine.now) body.now }
@@ -41,8 +53,10 @@ fn all_links<M: Machine>(alloc: Global, machine: &M, body: &[Bound]) -> Result<V
         (length body.now) links.items) }
 {
     let mut links = Vec::with_capacity(alloc, body.len())?;
+    let mut writers = writers_once(body);
     for place in 0..body.len() {
-        links.push(links_at(machine, body, place))?;
+        links.push(links_at(machine, body, place, &writers))?;
+        writers.note(body.len() + place, body[place].rd);
     }
     Ok(links)
 }

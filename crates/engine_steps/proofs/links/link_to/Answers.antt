@@ -13,14 +13,14 @@ returns-then-number-eq0 g c = link_zero _ _ c.args.place c.args.read (record { b
 
 pub returns-then-back-eq0 : goal.returns-then-back-eq0
 returns-then-back-eq0 g c = link_told (g.M.Machine.meaning c.args.machine.now) (map row_of c.args.body.now) c.args.place c.args.read (record { back = 0; lead = 0 }) (λ e. c.if-number-eq0.false (c.number.ensures.value ∙ e)) (omega (arith, length-map c.args.body.now row_of, c.requires.place))
-    (subst (IsBack (map row_of c.args.body.now) c.args.place c.args.read.reg) c.if-back-eq0.true c.rows_back-back.ensures) (λ ne. absurd (ne refl))
+    (subst (IsBack (map row_of c.args.body.now) c.args.place c.args.read.reg) c.if-back-eq0.true c.requires.back) (λ ne. absurd (ne refl))
 
 pub returns : goal.returns
 returns g c =
-    let q : ℕ = (c.args.place + length c.args.body.now - c.rows_back-back.result) % length c.args.body.now in
-    let within : q < length c.args.body.now = mod-lt (c.args.place + length c.args.body.now - c.rows_back-back.result) (omega (arith, c.requires.place)) in
-    let row : row_of c.index-body-place.result ≡ slice_index_or (map row_of c.args.body.now) ((c.args.place + length (map row_of c.args.body.now) - c.rows_back-back.result) % length (map row_of c.args.body.now)) no_row =
+    let q : ℕ = (c.args.place + length c.args.body.now - c.args.back) % length c.args.body.now in
+    let within : q < length c.args.body.now = mod-lt (c.args.place + length c.args.body.now - c.args.back) (omega (arith, c.requires.place)) in
+    let row : row_of c.index-body-place.result ≡ slice_index_or (map row_of c.args.body.now) ((c.args.place + length (map row_of c.args.body.now) - c.args.back) % length (map row_of c.args.body.now)) no_row =
     ap row_of c.index-body-place.is ∙ sym (get_or-map row_of c.args.body.now q c.index-body-place.result no_row within)
-    ∙ ap (λ n. slice_index_or (map row_of c.args.body.now) ((c.args.place + n - c.rows_back-back.result) % n) no_row) (sym (length-map c.args.body.now row_of)) in
-    link_told (g.M.Machine.meaning c.args.machine.now) (map row_of c.args.body.now) c.args.place c.args.read (record { back = c.rows_back-back.result; lead = c.lead.result }) (λ e. c.if-number-eq0.false (c.number.ensures.value ∙ e)) (omega (arith, length-map c.args.body.now row_of, c.requires.place))
-    c.rows_back-back.ensures (λ ne. c.lead.ensures ∙ ap (λ (b : Row). lead b.latency (advance_of (g.M.Machine.meaning c.args.machine.now) c.args.read.read b.write)) row)
+    ∙ ap (λ n. slice_index_or (map row_of c.args.body.now) ((c.args.place + n - c.args.back) % n) no_row) (sym (length-map c.args.body.now row_of)) in
+    link_told (g.M.Machine.meaning c.args.machine.now) (map row_of c.args.body.now) c.args.place c.args.read (record { back = c.args.back; lead = c.lead.result }) (λ e. c.if-number-eq0.false (c.number.ensures.value ∙ e)) (omega (arith, length-map c.args.body.now row_of, c.requires.place))
+    c.requires.back (λ ne. c.lead.ensures ∙ ap (λ (b : Row). lead b.latency (advance_of (g.M.Machine.meaning c.args.machine.now) c.args.read.read b.write)) row)
