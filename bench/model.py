@@ -1,5 +1,5 @@
 #!/usr/bin/env python3
-"""A second, slow model of mca, written from docs/rules.md and docs/formats.md: reads assembly and tables that mca accepts,
+"""A second, slow model of mca, by the rules of docs/rules.md and the formats of docs/formats.md: reads assembly and tables that mca accepts,
 runs each region cycle by cycle and prints the report. It shares nothing with the program, whose output compare.py and
 examples/reports.sh put beside this one's. What mca refuses it does not refuse: it stops with an error of Python's.
 
