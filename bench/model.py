@@ -836,10 +836,10 @@ class Report:
         return [line.rstrip(' ') for line in out]
 
 
-def load(seed):
-    """The program that a number makes."""
+def load(seed, count=512):
+    """The program that a number makes, or so many instructions by its rule."""
     x, out = seed, []
-    for _ in range(512):
+    for _ in range(count):
         x = (x * 1664525 + 1013904223) % 2**32
         h = x // 65536
         rd, rs1, rs2 = (10 + h // place % 8 for place in (16, 128, 1024))

@@ -9,19 +9,12 @@ peer=$(command -v llvm-mca-19) || { echo 'llvm-mca-19 is not installed (apt-get 
 work=$(mktemp -d) || exit 1
 trap 'rm -rf "$work"' EXIT
 
-# Bodies of 4,096 instructions: a chain of additions, independent ones, and a mixture with a division in 64.
+# Bodies of 4,096 instructions: a chain of additions, independent ones, and a mixture by the generator of -load, which is
+# the program of -load=0 with the 3,584 instructions that its rule gives next. That program itself has 512.
 awk 'BEGIN { for (i = 0; i < 4096; i++) print "add a0, a0, a1" }' > "$work/chain.s"
 awk 'BEGIN { for (i = 0; i < 4096; i++) print "add a" i % 8 ", s2, s3" }' > "$work/independent.s"
-awk 'BEGIN {
-    split("add a%d, a%d, a%d;mul a%d, a%d, a%d;ld a%d, 0(a%d);add a%d, a%d, a%d;sub a%d, a%d, a%d;sd a%d, 8(a%d);xor a%d, a%d, a%d;mul a%d, a%d, a%d", form, ";")
-    for (i = 0; i < 4096; i++) {
-        seed = (seed * 1664525 + 1013904223) % 4294967296
-        h = int(seed / 65536)
-        x = int(h / 16) % 8; y = int(h / 128) % 8; z = int(h / 1024) % 8
-        if (i % 64 == 63) printf "div a%d, a%d, a%d\n", x, y, z
-        else printf form[i % 8 + 1] "\n", x, y, z
-    }
-}' > "$work/mixed.s"
+"$top/bench/load.py" 0 4096 > "$work/mixed.s" || exit 1
+"$top/bench/load.py" 0 > "$work/load.s" || exit 1
 awk 'BEGIN { for (i = 0; i < 64; i++) print "div a0, a0, a1" }' > "$work/divisions.s"
 echo 'add a0, a1, a2' > "$work/one.s"
 
@@ -54,6 +47,10 @@ compare() {
         printf "| %s | %s | %.1f ms | %.1f ms | %.2f | %s | %s |\n", name, core, ours / 1000, theirs / 1000, ours / theirs, c, d }'
 }
 
+# The body that is timed is the program's own: both have the same summary.
+"$program" -load=0 | tail -n +2 > "$work/made"
+"$program" -mcpu=quad $plain "$work/load.s" | tail -n +2 | cmp - "$work/made" || exit 1
+
 wanted=${1-}
 echo '| Case | Core | mca | llvm-mca | Ratio | Cycles | Cycles of llvm-mca |'
 echo '|---|---|---|---|---|---|---|'
@@ -62,6 +59,7 @@ for core in sifive-p450 sifive-p670 xiangshan-nanhu; do
     compare '4,096 additions in a chain x 256' chain 256 "$core"
     compare '4,096 independent additions x 256' independent 256 "$core"
     compare '4,096 mixed x 256' mixed 256 "$core"
+    compare 'the program of -load=0 x 2,048' load 2048 "$core"
     compare '64 divisions in a chain x 10,000' divisions 10000 "$core"
 done
 
