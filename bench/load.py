@@ -1,6 +1,7 @@
 #!/usr/bin/env python3
-"""Prints the program that `mca -load=SEED` makes, by the rule of docs/formats.md, as assembly that mca and llvm-mca read, one
-instruction a line. With COUNT it has so many instructions instead of 512: the rule goes on after the last.
+"""Prints the program that `mca -load=SEED` makes, by the rule of docs/formats.md, as assembly that
+mca and llvm-mca read, one instruction a line. With COUNT it has so many instructions instead of
+512: the rule goes on after the last.
 
     bench/load.py SEED [COUNT]
 """

@@ -1,13 +1,14 @@
-/* Preloaded into a program, this refuses one of its requests for memory: that whose number, counted from 1, stands in REFUSE_ALLOC.
- * malloc and its like then answer NULL. The name of the call and the bytes that it asked for go to the file REFUSE_LOG, so a run
- * that leaves none made fewer requests. Without REFUSE_ALLOC nothing is refused. */
+/* Preloaded into a program, this refuses one of its requests for memory: that whose number, counted
+ * from 1, stands in REFUSE_ALLOC. malloc and its like then answer NULL. The name of the call and the
+ * bytes that it asked for go to the file REFUSE_LOG, so a run that leaves none made fewer requests.
+ * Without REFUSE_ALLOC nothing is refused. */
 #include <errno.h>
 #include <fcntl.h>
 #include <stdio.h>
 #include <stdlib.h>
 #include <unistd.h>
 
-/* The calls of the C library (glibc) under the names that it keeps for those who stand before it. */
+/* The calls of the C library (glibc), by the names that it keeps for those who stand before it. */
 void *__libc_malloc(size_t);
 void *__libc_calloc(size_t, size_t);
 void *__libc_realloc(void *, size_t);
