@@ -76,6 +76,8 @@ def huge():
     run('calls', b'call f\n' * (MOST // 7), TABLE)
     run('constants', b'li a0, 0x1234567812345679\n' * (MOST // 26), TABLE)
     run('symbols', b''.join(b'j _%05x\n' % k for k in range(932000)), TABLE)
+    letters = b'abcdefghijklmnopqrstuvwxyzABCDEFGHIJKLMNOPQRSTUVWXYZ'
+    run('1.2 million symbols of four letters', b''.join(b'j %c%c%c%c\n' % tuple(letters[k // 52**n % 52] for n in range(4)) for k in range(MOST // 7)), TABLE)
     run('marks', b'# LLVM-MCA-BEGIN\n# LLVM-MCA-END\n' * (MOST // 32), TABLE, wanted='mca: assembly line 2: NoInstruction')
     run('records', ADD, b'def : SchedRead;\n' * 8192, wanted='mca: machine record 0: NoModel')
     resource = lambda size, units: b'def M : SchedMachineModel { let MicroOpBufferSize = 8; }\ndef %s : ProcResource<%d>;\ndef : WriteRes<WriteIALU, []>;\n' % (b'n' * size, units)
@@ -93,6 +95,7 @@ def huge():
     run('800,000 names of opcodes', ADD, TABLE + b''.join(
         b'def : InstRW<[WriteIALU], (instrs %s)>;\n' % b', '.join(b'X%x' % (k * 100 + i) for i in range(100)) for k in range(8000)), wanted='')
     run('4 million names of one letter', ADD, TABLE + b'def : ReadAdvance<R, 1, [%s]>;\n' % b','.join([b'w'] * 4_000_000), wanted='')
+    run('4 million numbers', ADD, TABLE + b'def : SchedWriteRes<[]> { let ReleaseAtCycles = [%s]; }\n' % b','.join([b'1'] * 4_000_000))
     run('a list of 10,000 numbers in a scope of 1,000 records', ADD, TABLE + b'let ReleaseAtCycles = [%s] in {\n' % b','.join([b'1'] * 10_000)
         + b'def : SchedWriteRes<[]>;\n' * 1000 + b'}\n')
     run('groups', ADD, TABLE + b''.join(b'def : SchedWriteRes<[PAB, PA, PB]>;\n' for _ in range(8000)))
