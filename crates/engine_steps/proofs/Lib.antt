@@ -4,9 +4,14 @@ pub mod Moving
 pub mod Falling
 pub mod Steps
 pub mod Wakes
+pub mod Classes
+pub mod Selects
 pub mod Refusals
 pub mod Enters
 pub mod Producers
 pub mod LastWriters
 pub mod Operands
 pub mod Bodies
+pub mod Remainders
+pub mod Chained
+pub mod Readings

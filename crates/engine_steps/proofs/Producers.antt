@@ -35,7 +35,7 @@ nothing p = refl
 
 -- a place of the body, by rows back
 
-place_back : (n j e p : ℕ) → 1 ≤ e → e ≤ n → e ≤ j → j % n ≡ p → (j - e) % n ≡ (p + n - e) % n
+pub place_back : (n j e p : ℕ) → 1 ≤ e → e ≤ n → e ≤ j → j % n ≡ p → (j - e) % n ≡ (p + n - e) % n
 place_back n j e p low le within is =
     let whole : j / n * n + j % n ≡ j = div-add-mod' j n in
     let sum : j / n * n + (p + n - e) ≡ (j - e) + n = omega (arith, whole, is) in

@@ -1,14 +1,13 @@
 -- A row whose one resource has no unit left does not issue in the rest of the phase.
-use Rattle.std.proofs.Common.{◌≡◌, ℕ, ◌<◌, List, [], ◌++◌, inl, inr, sym, ◌∙◌, ap, subst, refl, Bool, true, false, ◌&&◌, ◌||◌, arith}
+use Rattle.std.proofs.Common.{◌≡◌, ℕ, List, [], ◌++◌, inl, inr, sym, ◌∙◌, ap, subst, refl, Bool, true, false, ◌&&◌, ◌||◌, arith}
 use Rattle.std.specs.Prelude.{Option, Some, None, is_some, nat_eq, nat_lt}
-use Rattle.std.proofs.lemmas.Bool.{cases_eq, ltb-true}
+use Rattle.std.proofs.lemmas.Bool.{cases_eq, both_ways}
 use Rattle.std.proofs.lemmas.Bool.Decides.{nat_tests}
 use Rattle.machine_model.specs.Meaning.{MachineMeaning}
 use Rattle.unit_sets.specs.Members.{in_word}
 use Rattle.cycle_rules.specs.Issue.{has_operands, may_access, can_start, can_issue}
 use Rattle.cycle_rules.specs.Pick.{Taken, pick, pick_unit, pick_units, prepend}
 use Rattle.cycle_rules.specs.Row.{Row, Input, Table}
-use Rattle.cycle_rules.proofs.Falls.{first_true}
 use Rattle.cycle_rules.specs.declared.times.Times.{Times}
 use Rattle.engine_state.specs.State.{now, taken_now}
 use Rattle.event_rules.proofs.Blocked.{blocked_stays}
@@ -44,18 +43,18 @@ refused_waits g c j r xs one none = not_issues g (now g c xs) j c (no_units g.ma
 
 -- more units are taken
 pub refused_grow : (m : MachineMeaning) (taken more : List Taken) (c refused : ℕ) → AreRefused m taken c refused → AreRefused m (taken ++ more) c refused
-refused_grow m taken more c refused h r is = blocked_stays m taken more c r (h r is)
+refused_grow m taken more c refused h = record { none = λ r is. blocked_stays m taken more c r (h.none r is); others = h.others }
+
+-- at first none is
+pub refused_none : (m : MachineMeaning) (taken : List Taken) (c refused : ℕ) → ((r : ℕ) → in_word refused r ≡ false) → AreRefused m taken c refused
+refused_none m taken c refused empty = record { none = λ r is. absurd (both_ways _ (empty r) is); others = empty 63 }
 
 -- one resource more
-pub refused_more : (m : MachineMeaning) (taken : List Taken) (c a b r : ℕ) → AreRefused m taken c a → pick_unit m taken c r ≡ None → ((v : ℕ) → in_word b v ≡ (nat_eq v r || in_word a v)) → AreRefused m taken c b
-refused_more m taken c a b r h none is v in_b = elim (cases_eq v r) [
-  | inl here ↦ subst (λ x. pick_unit m taken c x ≡ None) (sym here) none
-  | inr ne ↦ (let test : nat_eq v r ≡ false = grind (arith, nat_tests, ne) in h v (old test (is v)))
-]
-  where
-    old : nat_eq v r ≡ false → in_word b v ≡ (nat_eq v r || in_word a v) → in_word a v ≡ true
-    old test e = sym (rw test at e) ∙ in_b
-
-pub word_low : (word r : ℕ) → in_word word r ≡ true → r < 64
-unfolding in_word
-word_low word r e = ltb-true r 64 (first_true _ _ e)
+pub refused_more : (m : MachineMeaning) (taken : List Taken) (c a b r : ℕ) → AreRefused m taken c a → pick_unit m taken c r ≡ None → (r ≡ 63 → ⊥) → ((v : ℕ) → in_word b v ≡ (nat_eq v r || in_word a v)) → AreRefused m taken c b
+refused_more m taken c a b r h none class is = record {
+  none = λ v in_b. elim (cases_eq v r) [
+    | inl here ↦ subst (λ x. pick_unit m taken c x ≡ None) (sym here) none
+    | inr ne ↦ (let test : nat_eq v r ≡ false = grind (arith, nat_tests, ne) in h.none v (sym (rw test at (is v)) ∙ in_b))
+  ];
+  others = (let test : nat_eq 63 r ≡ false = grind (arith, nat_tests, class) in is 63 ∙ rw test h.others);
+}

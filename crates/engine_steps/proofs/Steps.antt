@@ -39,7 +39,8 @@ flight_at g f c k l h state = record {
   files = h.files;
   queues = h.queues;
   memory = h.memory;
-  kept = h.kept;
+  awake = h.awake;
+  later = h.later;
 }
 
 pub flight_key : (g : Input) (f : Flight) (c k l : ℕ) → k ≡ l → IsFlight g f c k → IsFlight g f c l
@@ -116,6 +117,10 @@ start_told g t j c operands memory found a b d = rw (a, b, d) refl
 pub start_found : (g : Input) (t : Table) (j c : ℕ) → can_start g t j c ≡ true → is_some (pick g t j c) ≡ true
 unfolding can_start
 start_found g t j c e = second_true _ _ e
+
+pub start_operands : (g : Input) (t : Table) (j c : ℕ) → can_start g t j c ≡ true → has_operands g t j c ≡ true
+unfolding can_start
+start_operands g t j c e = first_true _ _ (first_true _ _ e)
 
 pub start_access : (g : Input) (t : Table) (j c : ℕ) → can_start g t j c ≡ true → may_access g t j c ≡ true
 unfolding can_start

@@ -4,5 +4,6 @@ pub mod Wake
 pub mod Refused
 pub mod Flight
 pub mod Links
+pub mod Readers
 pub mod Done
 pub mod Pipeline

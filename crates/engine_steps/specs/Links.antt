@@ -6,7 +6,6 @@ use Rattle.cycle_rules.specs.Issue.{has_operand, has_operands}
 use Rattle.cycle_rules.specs.declared.bound.Source.{Source}
 use Rattle.cycle_rules.specs.declared.times.Times.{Times}
 use Rattle.engine_state.specs.State.{never}
-use Rattle.engine_steps.specs.Wake.{not_before}
 use Rattle.engine_steps.specs.declared.links.Link.{Link}
 use Rattle.engine_steps.specs.declared.links.Links.{Links}
 
@@ -49,6 +48,11 @@ abbrev pub AreLinks : MachineMeaning → List Row → ℕ → Links → Type 0
 AreLinks m body p links = (iterations j c : ℕ) (t : Table) → j % length body ≡ p
     → has_operands (input m body iterations) t j c ≡ (is_there t j c links.first && is_there t j c links.second)
 
+-- links name rows that stand no further back than so many
+pub record IsWithin (n : ℕ) (links : Links) : Type 0 where
+  pub first : links.first.back ≤ n
+  pub second : links.second.back ≤ n
+
 abbrev pub no_link : Link
 no_link = record { back = 0; lead = 0 }
 
@@ -71,7 +75,3 @@ after time n = if nat_eq time never then None else Some (time + n)
 -- the first cycle in which the value is there, by the table of what is recorded
 abbrev pub link_from : List Times → ℕ → Link → Option ℕ
 link_from table j link = if nat_eq link.back 0 then Some 0 else (if nat_lt j link.back then Some 0 else after (times table (j - link.back)).issue link.lead)
-
--- a cycle before which it is not there, where the row that the link names issues no earlier than is kept of it
-abbrev pub link_lacks : List Times → List ℕ → ℕ → Link → ℕ
-link_lacks table wake j link = if nat_eq link.back 0 then 0 else (if nat_lt j link.back then 0 else not_before table wake (j - link.back) + link.lead)

@@ -6,9 +6,10 @@ use Rattle.unit_sets.specs.Members.{in_word}
 use Rattle.cycle_rules.specs.Pick.{Taken, pick_unit}
 use Rattle.cycle_rules.specs.Row.{Row}
 
--- the resources in a set are such, after uses that took units
-abbrev pub AreRefused : MachineMeaning → List Taken → ℕ → ℕ → Type 0
-AreRefused m taken c refused = (r : ℕ) → in_word refused r ≡ true → pick_unit m taken c r ≡ None
+-- the resources in a set are such, after uses that took units; the class of all other rows is no resource
+pub record AreRefused (m : MachineMeaning) (taken : List Taken) (c refused : ℕ) : Type 0 where
+  pub none : (r : ℕ) → in_word refused r ≡ true → pick_unit m taken c r ≡ None
+  pub others : in_word refused 63 ≡ false
 
 -- a row has one use, of a resource, which holds its unit
 pub record HasOneUse (row : Row) (r : ℕ) : Type 0 where

@@ -19,6 +19,7 @@ use crate::flight::Flight;
 use crate::issue::starts_now;
 use crate::memory::{enter_memory, issue_memory};
 use crate::rows::Rows;
+use crate::wakeup::settle;
 use cycle_rules::{Bound, Times};
 use issue_queues::Queues;
 use machine_model::Machine;
@@ -151,6 +152,7 @@ fn dispatch_head<M: Machine, R: Rows>(rows: &R, units: &mut Units<M>, f: &mut Fl
     enter_memory(&mut f.memory, b.kind, j as u32);
     wait_or_issue(&mut f.queues, &mut f.memory, b, j as u32, c, complete);
     f.head = j + 1;
+    settle(rows, &f.table, &mut f.wakeup, j, c);
 }
 
 // A row that has entered the memory queues waits to issue; one that is reserved issues, and completes in a

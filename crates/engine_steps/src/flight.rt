@@ -5,6 +5,7 @@ ghost use Rattle.engine_steps.specs.Ranges.{AreRanges};
 ghost use Rattle.engine_steps.specs.Flight.{IsFlight};
 
 use crate::rows::Rows;
+use crate::wakeup::Wakeup;
 use cycle_rules::{NO_UNIT, Times};
 use dispatch_unit::Group;
 use issue_queues::Queues;
@@ -20,8 +21,8 @@ use std::alloc::Global;
 pub struct Flight {
     /// The times of all rows, with 2^64 - 1 for one that is not known.
     pub table: Vec<Times>,
-    /// Of each row that waits to issue a cycle before which it lacks an operand; for others of no meaning.
-    pub wake: Vec<u64>,
+    /// Which rows in flight are ready to issue, and which wait for a cycle.
+    pub wakeup: Wakeup,
     pub group: Group,
     pub rob: Rob,
     pub files: Files,
@@ -48,7 +49,7 @@ pub fn start<M: Machine, R: Rows>(alloc: Global, machine: &M, rows: &R) -> Resul
     };
     let limits = machine.limits();
     let table = vec![in alloc; absent; rows.count()]?;
-    let wake = vec![in alloc; 0; rows.count()]?;
+    let wakeup = Wakeup::make(alloc)?;
     let rob = Rob::make(alloc, limits.reorder)?;
     let files = Files::make(alloc, machine)?;
     let queues = Queues::make(alloc, machine)?;
@@ -56,7 +57,7 @@ pub fn start<M: Machine, R: Rows>(alloc: Global, machine: &M, rows: &R) -> Resul
     let group = Group::make(limits.width);
     Ok(Flight {
         table,
-        wake,
+        wakeup,
         group,
         rob,
         files,

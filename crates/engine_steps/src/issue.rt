@@ -1,4 +1,4 @@
-//! The issues of a cycle: the rows in flight are tried in age order.
+//! The issues of a cycle: the rows that are ready are tried in age order.
 ghost use Rattle.std.specs.Prelude.{◌≡◌, ◌<◌, ◌≤◌, ◌+◌, ◌^◌, ℕ, List, ◌++◌, true, false, ◌&&◌, ◌||◌};
 ghost use Rattle.cycle_rules.specs.Row.{times};
 ghost use Rattle.cycle_rules.specs.Pick.{Taken};
@@ -6,14 +6,14 @@ ghost use Rattle.cycle_rules.specs.Issue.{may_access, can_start, can_issue};
 ghost use Rattle.engine_state.specs.State.{never, now, at, taken_now};
 ghost use Rattle.resource_units.specs.Stand.{StandsFor as UnitsStandFor, machine_of};
 ghost use Rattle.engine_steps.specs.Done.{Falls};
-ghost use Rattle.engine_steps.specs.Wake.{wake_of};
 ghost use Rattle.engine_steps.specs.Refused.{AreRefused};
 ghost use Rattle.engine_steps.specs.Flight.{IsFlight};
 
 use crate::flight::Flight;
 use crate::memory::{issue_memory, may_access};
-use crate::refused::{is_refused, one_resource, refuse};
+use crate::refused::refuse;
 use crate::rows::Rows;
+use crate::wakeup::wake_readers;
 use cycle_rules::Times;
 use machine_model::Machine;
 use resource_units::Units;
@@ -40,8 +40,10 @@ pub fn issue_rows<M: Machine, R: Rows>(
 {
     let mut refused = u64::empty();
     let mut any = false;
-    for j in f.front..f.head {
+    let mut j = f.wakeup.ready.next(refused, f.front, f.head);
+    while j < f.head {
         any = either(issue_row(rows, units, f, &mut refused, j, c), any);
+        j = f.wakeup.ready.next(refused, j + 1, f.head);
     }
     any
 }
@@ -53,7 +55,7 @@ fn either(one: bool, other: bool) -> bool
     one || other
 }
 
-// A row in flight issues, if it has not and may; and whether it did.
+// A row in flight issues, if it may; and whether it did.
 fn issue_row<M: Machine, R: Rows>(
     rows: &R,
     units: &mut Units<M>,
@@ -82,10 +84,6 @@ fn issue_row<M: Machine, R: Rows>(
     ensures refused { AreRefused (R.input rows.now).machine
         (taken_now (R.input rows.now) c f.new.table.items) c refused.new }
 {
-    let wake = f.wake[j];
-    if wake > c {
-        return false;
-    }
     if f.table[j].issue != u64::MAX {
         return false;
     }
@@ -93,32 +91,12 @@ fn issue_row<M: Machine, R: Rows>(
     if b.reserved {
         return false;
     }
-    let resource = one_resource(b);
-    if is_refused(*refused, resource) {
-        return false;
-    }
     if !issues_now(rows, units, f, j, c) {
-        put_off(rows, f, j);
-        refuse(units, b, resource, refused, c);
+        refuse(units, b, refused, c);
         return false;
     }
     issue(rows, units, f, j, c);
     true
-}
-
-// A row is not tried again before the cycle in which it has its operands at the earliest, by what is known
-// of the rows that write them. What is kept of a row so passes on to those that read from it.
-fn put_off<R: Rows>(rows: &R, f: &mut Flight, j: usize)
-    requires flight { (c : ℕ) × (key : ℕ) × (IsFlight (R.input rows.now) f.old c key) }
-    requires row { j < f.old.head }
-    ensures flight { (c key : ℕ) → IsFlight (R.input rows.now) f.old c key →
-        IsFlight (R.input rows.now) f.new c key }
-    ensures table { f.new.table.items ≡ f.old.table.items }
-    ensures front { f.new.front ≡ f.old.front }
-    ensures head { f.new.head ≡ f.old.head }
-{
-    let until = rows.lacks_until(&f.table, &f.wake, j);
-    f.wake[j] = until.max(f.wake[j]);
 }
 
 // Whether a row that has dispatched, and is not reserved, may issue.
@@ -184,7 +162,6 @@ fn issue<M: Machine, R: Rows>(rows: &R, units: &mut Units<M>, f: &mut Flight, j:
     requires flight { IsFlight (R.input rows.now) f.old c (at (R.input rows.now) c 1 j) }
     requires free { ((R.input rows.now).row j).reserved ≡ false }
     requires none { (times f.old.table.items j).issue ≡ never }
-    requires woken { wake_of f.old.wake.items j ≤ c }
     requires may { can_issue (R.input rows.now) (now (R.input rows.now) c f.old.table.items) j c
         ≡ true }
     ensures flight { IsFlight (R.input rows.now) f.new c (at (R.input rows.now) c 1 (j + 1)) }
@@ -207,7 +184,7 @@ fn issue<M: Machine, R: Rows>(rows: &R, units: &mut Units<M>, f: &mut Flight, j:
         retire: row.retire,
         units: units.take(b, c),
     };
-    f.wake[j] = u64::MAX;
     f.queues.leave(j as u32, b);
     issue_memory(&mut f.memory, b.kind, j as u32, c, complete);
+    wake_readers(rows, &f.table, &mut f.wakeup, j, f.head, c);
 }

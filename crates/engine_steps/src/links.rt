@@ -3,7 +3,7 @@ ghost use Rattle.std.specs.Prelude.{◌≡◌, ◌<◌, ◌≤◌, ◌+◌, ◌*
 ghost use Rattle.std.specs.List.{list_all};
 ghost use Rattle.cycle_rules.specs.Bind.{row_of, has_class, AreBound, IsBound};
 ghost use Rattle.cycle_rules.specs.Row.{Row, no_row};
-ghost use Rattle.engine_steps.specs.Links.{IsBack, IsLink, AreLinks, AreLast, rd_at, no_source};
+ghost use Rattle.engine_steps.specs.Links.{IsBack, IsLink, AreLinks, AreLast, IsWithin, rd_at, no_source};
 
 use cycle_rules::{Bound, Source, lead};
 use machine_model::Machine;
@@ -79,7 +79,8 @@ pub fn links_at<M: Machine>(machine: &M, body: &[Bound], place: usize, writers: 
     requires place { place < length body.now }
     requires few { length body.now ≤ MOST_ROWS }
     requires last { AreLast (map row_of body.now) (length body.now + place) writers.now.last }
-    ensures { AreLinks (M.meaning machine.now) (map row_of body.now) place result }
+    ensures links { AreLinks (M.meaning machine.now) (map row_of body.now) place result }
+    ensures near { IsWithin (length body.now) result }
 {
     links_of(machine, body, place, writers, &body[place])
 }
@@ -98,7 +99,8 @@ fn links_of<M: Machine>(
     requires last { AreLast (map row_of body.now) (length body.now + place) writers.now.last }
     requires here { row_of b.now ≡ slice_index_or (map row_of body.now) place no_row }
     requires b { IsBound (M.meaning machine.now) b.now }
-    ensures { AreLinks (M.meaning machine.now) (map row_of body.now) place result }
+    ensures links { AreLinks (M.meaning machine.now) (map row_of body.now) place result }
+    ensures near { IsWithin (length body.now) result }
 {
     let reads = &b.reads[..b.read_count as usize];
     let first = link_of(machine, body, place, writers, reads, 0);
@@ -124,6 +126,7 @@ fn link_of<M: Machine>(
         IsLink (M.meaning machine.now) (map row_of body.now) place
         (slice_index_or reads.now k no_source) result }
     ensures none { length reads.now ≤ k → result.back ≡ 0 }
+    ensures near { result.back ≤ length body.now }
 {
     if k >= reads.len() {
         return Link { back: 0, lead: 0 };
@@ -145,7 +148,8 @@ fn link_to<M: Machine>(machine: &M, body: &[Bound], place: usize, read: Source, 
     requires few { length body.now ≤ MOST_ROWS }
     requires back { IsBack (map row_of body.now) place read.reg back }
     requires class { has_class (M.meaning machine.now) read ≡ true }
-    ensures { IsLink (M.meaning machine.now) (map row_of body.now) place read result }
+    ensures link { IsLink (M.meaning machine.now) (map row_of body.now) place read result }
+    ensures near { result.back ≤ length body.now }
 {
     if read.reg.number() == 0 {
         return Link { back: 0, lead: 0 };

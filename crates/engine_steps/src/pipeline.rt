@@ -10,6 +10,7 @@ use crate::issue::issue_rows;
 use crate::plan::Plan;
 use crate::retire::retire_rows;
 use crate::rows::Rows;
+use crate::wakeup::wake_rows;
 use cycle_rules::{Bound, Timeline};
 use machine_model::Machine;
 use mca_fixed::{Items, NoMemory};
@@ -28,18 +29,18 @@ pub struct Pipeline<'a, M: Machine> {
 }
 
 // The parts go on to cycle c, before which nothing falls any more.
-fn advance<M: Machine>(units: &mut Units<M>, f: &mut Flight, c: u64)
+fn advance<M: Machine, R: Rows>(rows: &R, units: &mut Units<M>, f: &mut Flight, c: u64)
     requires low { c < 2 ^ 42 }
-    requires done { (run : Input) × (n : ℕ) × (n ≤ c) × (IsIdle run n c)
-        × (HasDone M.meaning M.Mask.holds run units.old f.old n) }
-    ensures parts { (run : Input) (n : ℕ) → n ≤ c → IsIdle run n c →
-        HasDone M.meaning M.Mask.holds run units.old f.old n →
-        AreParts M.meaning M.Mask.holds run units.new f.new c (at run c 0 0) }
+    requires done { (n : ℕ) × (n ≤ c) × (IsIdle (R.input rows.now) n c)
+        × (HasDone M.meaning M.Mask.holds (R.input rows.now) units.old f.old n) }
+    ensures parts { AreParts M.meaning M.Mask.holds (R.input rows.now) units.new f.new c (at
+        (R.input rows.now) c 0 0) }
     ensures table { f.new.table.items ≡ f.old.table.items }
 {
     if c > 0 {
         f.group.next_cycle(c);
         units.release_until(c);
+        wake_rows(rows, &f.table, &mut f.wakeup, f.front, c);
     }
 }
 
@@ -52,7 +53,7 @@ fn turn<M: Machine, R: Rows>(rows: &R, units: &mut Units<M>, f: &mut Flight, c: 
     ensures event { result ≡ true → Falls (R.input rows.now) c }
     ensures none { result ≡ false → IsIdle (R.input rows.now) c (c + 1) }
 {
-    advance(units, f, c);
+    advance(rows, units, f, c);
     let retired = retire_rows(rows, f, c);
     let issued = issue_rows(rows, units, f, c);
     let dispatched = dispatch_rows(rows, units, f, c);
@@ -116,8 +117,8 @@ impl<'a, M: Machine> Pipeline<'a, M> {
     }
 
     /// All events of cycle `c`, where no event falls any more before it; and whether there were any. It
-    /// takes no memory. The work grows with the rows in flight, and with no others; of one that waits for
-    /// operands a number alone is looked at.
+    /// takes no memory. The work grows with the rows that are ready to issue, that wake up, or that have an
+    /// event in the cycle.
     pub fn turn(&mut self, c: u64) -> bool
         requires low { c < 2 ^ 42 }
         requires done { (n : ℕ) × (n ≤ c) × (IsIdle (run_of M.meaning self.old) n c)

@@ -1,5 +1,5 @@
 //! The rows of a body on a machine.
-ghost use Rattle.std.specs.Prelude.{◌≡◌, ◌<◌, ◌≤◌, ◌*◌, ◌-◌, ◌^◌, ℕ, length, map, IfOk, not, ◌&&◌, nat_eq, nat_le, if◌then◌else◌};
+ghost use Rattle.std.specs.Prelude.{◌≡◌, ◌<◌, ◌≤◌, ◌*◌, ◌-◌, ◌%◌, ◌^◌, ℕ, length, map, slice_index_or, IfOk, not, ◌&&◌, nat_eq, nat_le, if◌then◌else◌};
 ghost use Rattle.std.specs.List.{All};
 ghost use Rattle.cycle_rules.specs.Bind.{row_of, AreBound, IsBoundBody};
 ghost use Rattle.issue_queues.specs.Queues.{IsNaming};
@@ -7,9 +7,12 @@ ghost use Rattle.event_rules.specs.Due.{later};
 ghost use Rattle.cycle_rules.specs.Row.{times};
 ghost use Rattle.mca_fixed.specs.declared.limits.TheConstants.{MOST_ROWS};
 ghost use Rattle.engine_state.specs.State.{never};
-ghost use Rattle.engine_steps.specs.Links.{AllLinks, AreLast, was_there, after, link_from, link_lacks};
+ghost use Rattle.engine_steps.specs.Links.{AllLinks, AreLast, IsWithin, was_there, after, link_from, no_links};
+ghost use Rattle.engine_steps.specs.Readers.{AreReaders};
 
 use crate::links::{Link, Links, Writers, links_at};
+use crate::places::Places;
+use crate::readers::Readers;
 use crate::rows::Rows;
 use cycle_rules::{Bound, Times};
 use machine_model::Machine;
@@ -24,12 +27,20 @@ pub struct Plan<'a, M: Machine> {
     iterations: usize,
     // Where the reads of each instruction get their values.
     links: Vec<Links>,
+    // Which place of the body each row is.
+    places: Places,
+    // How many rows later those rows stand that read what the row at a place writes.
+    readers: Readers,
     ghost some: { 0 < length body.now },
     ghost few: { iterations * length body.now ≤ MOST_ROWS },
     ghost size: { length links.items ≡ length body.now },
     ghost named: { All (λ b. IsNaming (M.meaning machine.now) b) body.now },
     ghost linked: { AllLinks (M.meaning machine.now) (map row_of body.now)
         (length body.now) links.items },
+    ghost near: { All (IsWithin (length body.now)) links.items },
+    ghost placed: { places.size ≡ length body.now },
+    ghost read: { AreReaders links.items (length body.now) readers.starts.items
+        readers.later.items },
 }
 
 // The last writers when the rows of one iteration have gone by.
@@ -51,6 +62,7 @@ fn all_links<M: Machine>(alloc: Global, machine: &M, body: &[Bound]) -> Result<V
     ensures size { IfOk result (λ links. length links.items ≡ length body.now) }
     ensures linked { IfOk result (λ links. AllLinks (M.meaning machine.now) (map row_of body.now)
         (length body.now) links.items) }
+    ensures near { IfOk result (λ links. All (IsWithin (length body.now)) links.items) }
 {
     let mut links = Vec::with_capacity(alloc, body.len())?;
     let mut writers = writers_once(body);
@@ -123,29 +135,6 @@ fn later(a: Option<u64>, b: Option<u64>) -> Option<u64>
     }
 }
 
-// The issue of a row, or what is kept of it where it has not issued.
-fn not_before(issue: u64, wake: u64) -> u64
-    ensures { result ≡ (if nat_eq issue never then wake else issue) }
-{
-    if issue == u64::MAX { wake } else { issue }
-}
-
-// A cycle before which row j can't read the value of the row that a link names.
-fn lacks_by(table: &[Times], wake: &[u64], j: usize, link: Link) -> u64
-    requires row { j < length table.now }
-    requires wakes { j < length wake.now }
-    ensures { result ≤ link_lacks table.now wake.now j link }
-{
-    let back = link.back as usize;
-    if back == 0 {
-        return 0;
-    }
-    if j < back {
-        return 0;
-    }
-    not_before(table[j - back].issue, wake[j - back]).saturating_add(link.lead as u64)
-}
-
 // Whether both are told.
 fn both(first: bool, second: bool) -> bool
     ensures { result ≡ (first && second) }
@@ -170,12 +159,33 @@ impl<'a, M: Machine> Plan<'a, M> {
         ensures iterations { IfOk result (λ plan. plan.iterations ≡ iterations) }
     {
         let links = all_links(alloc, machine, body)?;
+        let readers = Readers::of(alloc, &links)?;
         Ok(Plan {
             machine,
             body,
             iterations: iterations as usize,
             links,
+            places: Places::of(body.len()),
+            readers,
         })
+    }
+
+    // The place of the body at which a row stands.
+    fn place(&self, j: usize) -> usize
+        requires { j < self.now.iterations * length self.now.body.now }
+        ensures place { result ≡ j % length self.now.body.now }
+        ensures within { result < length self.now.body.now }
+    {
+        self.places.at(j)
+    }
+
+    // The links of a row.
+    fn row_links(&self, j: usize) -> Links
+        requires { j < self.now.iterations * length self.now.body.now }
+        ensures { result ≡
+            slice_index_or self.now.links.items (j % length self.now.body.now) no_links }
+    {
+        self.links[self.place(j)]
     }
 }
 
@@ -193,7 +203,7 @@ impl<'a, M: Machine> Rows for Plan<'a, M> {
     }
 
     fn instruction(&self, j: usize) -> &Bound {
-        &self.body[j % self.body.len()]
+        &self.body[self.place(j)]
     }
 
     fn uops(&self, j: usize) -> u16 {
@@ -203,23 +213,20 @@ impl<'a, M: Machine> Rows for Plan<'a, M> {
     }
 
     fn has_operands(&self, table: &[Times], j: usize, c: u64) -> bool {
-        let links = self.links[j % self.body.len()];
+        let links = self.row_links(j);
         let first = was_there(table, j, links.first, c);
         let second = was_there(table, j, links.second, c);
         both(first, second)
     }
 
     fn ready_from(&self, table: &[Times], j: usize) -> Option<u64> {
-        let links = self.links[j % self.body.len()];
+        let links = self.row_links(j);
         let first = read_from(table, j, links.first);
         let second = read_from(table, j, links.second);
         later(first, second)
     }
 
-    fn lacks_until(&self, table: &[Times], wake: &[u64], j: usize) -> u64 {
-        let links = self.links[j % self.body.len()];
-        let first = lacks_by(table, wake, j, links.first);
-        let second = lacks_by(table, wake, j, links.second);
-        first.max(second)
+    fn readers(&self, j: usize) -> &[u32] {
+        self.readers.at(self.place(j))
     }
 }

@@ -1,11 +1,13 @@
 //! The rows of a run, as an engine asks for them.
-ghost use Rattle.std.specs.Prelude.{◌≡◌, ℕ, ◌<◌, ◌^◌, length};
+ghost use Rattle.std.specs.Prelude.{◌≡◌, ℕ, ◌-◌, ◌<◌, ◌≤◌, ◌^◌, length, true, nat_eq};
+ghost use Rattle.std.specs.List.{All, list_any};
 ghost use Rattle.cycle_rules.specs.Bind.{row_of};
 ghost use Rattle.cycle_rules.specs.Issue.{has_operands};
 ghost use Rattle.cycle_rules.specs.Row.{Input, times, uops_of};
 ghost use Rattle.event_rules.specs.Due.{ready_from};
+ghost use Rattle.event_rules.specs.Skip.{is_read_from};
+ghost use Rattle.mca_fixed.specs.declared.limits.TheConstants.{MOST_ROWS};
 ghost use Rattle.issue_queues.specs.Queues.{IsNaming};
-ghost use Rattle.engine_steps.specs.Wake.{LacksBefore};
 ghost use Rattle.engine_state.specs.State.{never, now, recorded, IsWritten};
 
 use cycle_rules::{Bound, Times};
@@ -52,11 +54,13 @@ pub trait Rows {
             ((times table.now k).issue ≡ never → ⊥) → (times table.now k).issue < 2 ^ 42 }
         ensures { result ≡ ready_from (input self.now) (recorded (input self.now) table.now) j };
 
-    /// A cycle before which a row lacks an operand, by the table of what is recorded, where each older row
-    /// that has not issued issues no earlier than `wake` says.
-    fn lacks_until(&self, table: &[Times], wake: &[u64], j: usize) -> u64
-        requires row { j < (input self.now).rows }
-        requires size { length table.now ≡ (input self.now).rows }
-        requires wakes { length wake.now ≡ (input self.now).rows }
-        ensures { LacksBefore (input self.now) table.now wake.now j result };
+    /// How many rows later those rows stand that read what a row writes, 1 to `MOST_ROWS` rows.
+    /// There may be other rows among them, also past the last one, and a row that reads twice may
+    /// stand there twice.
+    fn readers(&self, j: usize) -> &[u32]
+        requires { j < (input self.now).rows }
+        ensures all { (k : ℕ) → j < k → k < (input self.now).rows →
+            is_read_from (input self.now) k j ≡ true → list_any (nat_eq (k - j)) result.now ≡ true }
+        ensures later { All (λ d. 1 ≤ d) result.now }
+        ensures near { All (λ d. d ≤ MOST_ROWS) result.now };
 }

@@ -1,25 +1,24 @@
 -- What the rows in flight tell.
-use Rattle.std.proofs.Common.{zero, suc, ◌≡◌, ℕ, ◌+◌, ◌-◌, ◌^◌, ◌<◌, ◌≤◌, inl, inr, List, min, arith, sym, ◌∙◌, ap, subst, refl, Bool, true, false, not, ◌&&◌}
-use Rattle.std.specs.Prelude.{nat_lt, nat_eq, if◌then◌else◌, Option, Some, None, is_some}
+use Rattle.std.proofs.Common.{zero, suc, ◌≡◌, ℕ, ◌+◌, ◌-◌, ◌^◌, ◌<◌, ◌≤◌, ◌⊎◌, inl, inr, List, arith, sym, ◌∙◌, ap, subst, refl, Bool, true, false, not, ◌&&◌}
+use Rattle.std.specs.Prelude.{nat_lt, nat_eq, if◌then◌else◌, Option, Some, None, is_some, MatchOption}
+use Rattle.std.specs.List.{list_any}
 use Rattle.std.proofs.lemmas.Bool.Decides.{nat_tests}
-use Rattle.std.proofs.lemmas.Bool.{both_ways, cases_Bool, cases_eq, cases_lt, eqb-true, le-leb, leb-true}
+use Rattle.std.proofs.lemmas.Bool.{cases_Bool, cases_eq, cases_lt}
 use Rattle.cycle_rules.specs.Row.{Input, times, phase}
 use Rattle.cycle_rules.specs.Schedule.{Fall, Known}
 use Rattle.cycle_rules.specs.Events.{known_of}
-use Rattle.cycle_rules.specs.declared.times.Times.{Times}
 use Rattle.cycle_rules.proofs.Falls.{first_true, second_true}
-use Rattle.engine_state.specs.State.{IsWritten, at, never, now, recorded}
+use Rattle.engine_state.specs.State.{at, never, recorded}
 use Rattle.engine_state.proofs.Reading.{issued_by}
 use Rattle.engine_state.proofs.Turn.{known_is_some, never_is_none}
-use Rattle.cycle_rules.specs.Issue.{has_operands}
-use Rattle.event_rules.proofs.StillTests.{reached, operands_from}
-use Rattle.engine_steps.specs.Wake.{wake_of, AreKept}
-use Rattle.engine_steps.proofs.Wakes.{kept_lacks}
-use Rattle.event_rules.specs.Due.{is_front, is_ordered, is_waiting, comes_next, ready_from}
+use Rattle.row_sets.specs.Agenda.{time_of, IsFirst, NoneWaits}
+use Rattle.row_sets.specs.declared.agenda.Agenda.{Agenda}
+use Rattle.engine_steps.specs.Wake.{WaitsUntil, CompletesIn}
+use Rattle.event_rules.specs.Due.{is_front, is_ordered, is_waiting, comes_next, ready_from, all_times}
 use Rattle.engine_steps.specs.Flight.{IsFlight}
 use Rattle.engine_steps.specs.declared.flight.Flight.{Flight}
-use Rattle.event_engine.specs.Tells.{earlier, Told, is_time, SomeTime, TellsFront, TellsRows, TellsRow, TellsAgenda, coming, after_completion, completion, is_later}
-use Rattle.event_engine.proofs.Telling.{told_left, told_right, time_of}
+use Rattle.event_engine.specs.Tells.{earlier, Told, is_time, SomeTime, TellsFront, TellsHead, TellsAgenda, coming, after_completion}
+use Rattle.event_engine.proofs.Telling.{told_left, told_right, time_told}
 use Rattle.event_engine.proofs.RowTimes.{row_dispatch, row_retire, issue_at, complete_at, unissued_none, issued_some, not_none, set_complete, set_completed, set_ready, time_of_row, IsAt}
 
 -- A time that is told, where it does not lie before a cycle
@@ -40,31 +39,7 @@ time_coming g known c (Some x) h = elim (cases_lt x c) [
 some_is : (x y : ℕ) → Some x ≡ Some y → x ≡ y
 some_is x y e = cc
 
--- One row
-
-pub row_issued : (g : Input) (f : Flight) (b n k : ℕ) (o : Option ℕ) → IsFlight g f b n → k < g.rows → ((times f.table.items k).issue ≡ never → ⊥) → o ≡ completion (is_ordered (g.row k).kind) (times f.table.items k).complete → TellsRow g (recorded g f.table.items) k o
-row_issued g f b n k o h lt ne is =
-    let here : known_of g (recorded g f.table.items) (phase (g.row k)) k ≡ Some (record { cycle = (times f.table.items k).issue; what = (times f.table.items k).units }) = issued_some g k f.table.items lt (h.state.kept k lt) ne in
-    record {
-      completes = λ q at ordered. is ∙ ap (λ d. completion d (times f.table.items k).complete) ordered ∙ ap Some (complete_at g k f.table.items q lt (h.state.kept k lt) at);
-      ready = λ waits. absurd (issued_waits (known_of g (recorded g f.table.items) (phase (g.row k)) k) _ here waits);
-      time = λ x e. set_complete g (recorded g f.table.items) k x _ here (of_kind (is_ordered (g.row k).kind) x (sym is ∙ e) ∙ (h.state.kept k lt).complete ne);
-    }
-  where
-    issued_waits : (o : Option (Fall (List ℕ))) {q : Fall (List ℕ)} (d : Bool) → o ≡ Some q → (not (is_some o) && d) ≡ true → ⊥
-    issued_waits None d p e = cc
-    issued_waits (Some q) d p e = cc
-
-    of_kind : (d : Bool) (x : ℕ) → completion d (times f.table.items k).complete ≡ Some x → x ≡ (times f.table.items k).complete
-    of_kind true x e = sym (some_is _ _ e)
-    of_kind false x e = cc
-
-pub row_waits : (g : Input) (f : Flight) (b n k : ℕ) (o : Option ℕ) → IsFlight g f b n → k < g.rows → (times f.table.items k).issue ≡ never → o ≡ ready_from g (recorded g f.table.items) k → TellsRow g (recorded g f.table.items) k o
-row_waits g f b n k o h lt none is = record {
-  completes = λ q at ordered. absurd (not_none (unissued_none g k f.table.items lt (h.state.kept k lt) none) at);
-  ready = λ waits. is;
-  time = λ x e. set_ready g (recorded g f.table.items) k x (sym is ∙ e);
-}
+-- Rows that wait for nothing
 
 -- a row that has not dispatched and is not reserved waits for nothing
 free_waits : (g : Input) (f : Flight) (b n k : ℕ) → IsFlight g f b n → k < g.rows → f.head ≤ k → (g.row k).reserved ≡ false → is_waiting g (recorded g f.table.items) k ≡ true → ⊥
@@ -76,71 +51,6 @@ free_waits g f b n k h lt le free waits =
     go true e o p q r = cc
     go false e None p q r = cc
     go false e (Some x) p q r = cc
-
-pub row_none : (g : Input) (f : Flight) (b n k : ℕ) → IsFlight g f b n → k < g.rows → f.head ≤ k → (g.row k).reserved ≡ false → (times f.table.items k).issue ≡ never → TellsRow g (recorded g f.table.items) k None
-row_none g f b n k h lt le free none = record {
-  completes = λ q at ordered. absurd (not_none (unissued_none g k f.table.items lt (h.state.kept k lt) none) at);
-  ready = λ waits. absurd (free_waits g f b n k h lt le free waits);
-  time = λ x e. cc;
-}
-
--- the operands of a row are there no earlier than is kept of it
-ready_late : (g : Input) (k r : ℕ) (xs : List Times) (wake : List ℕ) {head : ℕ} → AreKept g xs wake head → k < g.rows → ((j : ℕ) → j < g.rows → IsWritten (g.row j) (times xs j)) → (times xs k).issue ≡ never → ready_from g (recorded g xs) k ≡ Some r → wake_of wake k ≤ r
-ready_late g k r xs wake kept lt written none is = elim (cases_lt r (wake_of wake k)) [
-  | inr high ↦ high
-  | inl early ↦ (let lacks : has_operands g (now g r xs) k r ≡ false = kept_lacks g r k _ xs wake kept lt written none early in
-      let there : has_operands g (now g r xs) k r ≡ true = operands_from g (recorded g xs) k r ∙ ap (reached r) is ∙ le-leb r r (omega arith) in
-      absurd (both_ways _ lacks there))
-]
-
--- All rows
-
-pub rows_first : (g : Input) (f : Flight) (c : ℕ) → 0 < c → IsFlight g f (c - 1) (at g c 0 0) → TellsRows g (recorded g f.table.items) c f.front None
-rows_first g f c start h = record {
-  completes = λ k q lt is ordered. (
-      let low : k < g.rows = omega (arith, lt, h.flow.order, h.flow.within) in
-      let past : (times f.table.items k).complete ≤ c - 1 = h.completed k lt in
-      omega (arith, past, start, complete_at g k f.table.items q low (h.state.kept k low) is));
-  ready = λ k r lt waits is. (
-      let low : k < g.rows = omega (arith, lt, h.flow.order, h.flow.within) in
-      absurd (issued_waits (known_of g (recorded g f.table.items) (phase (g.row k)) k) _ (issued_some g k f.table.items low (h.state.kept k low) (h.flow.issued k lt)) waits));
-  time = tt;
-}
-  where
-    issued_waits : (o : Option (Fall (List ℕ))) {q : Fall (List ℕ)} (d : Bool) → o ≡ Some q → (not (is_some o) && d) ≡ true → ⊥
-    issued_waits None d p e = cc
-    issued_waits (Some q) d p e = cc
-
-pub rows_next : (g : Input) (known : Known (List ℕ)) (c k : ℕ) (best o : Option ℕ) → k < g.rows → TellsRows g known c k best → TellsRow g known k o → TellsRows g known c (k + 1) (earlier best (coming c o))
-rows_next g known c k best o low all one = record {
-  completes = λ j q lt is ordered. elim (cases_eq j k) [
-    | inl here ↦ told_right c best (coming c o) _ (told_coming c _ o (subst (λ i. o ≡ Some (q.cycle + (g.row i).latency)) (sym here) (one.completes q (subst (λ i. known_of g known (phase (g.row i)) i ≡ Some q) here is) (subst (λ i. is_ordered (g.row i).kind ≡ true) here ordered))))
-    | inr ne ↦ told_left c best (coming c o) _ (all.completes j q (omega (arith, lt, ne)) is ordered)
-  ];
-  ready = λ j r lt waits is. elim (cases_eq j k) [
-    | inl here ↦ told_right c best (coming c o) r (told_coming c r o (one.ready (subst (λ i. is_waiting g known i ≡ true) here waits) ∙ subst (λ i. ready_from g known i ≡ Some r) here is))
-    | inr ne ↦ told_left c best (coming c o) r (all.ready j r (omega (arith, lt, ne)) waits is)
-  ];
-  time = time_of g known c best (coming c o) all.time (time_coming g known c o (λ x e. time_of_row g known k x low (one.time x e)));
-}
-
--- a row that has its operands no earlier than a time that was found is passed over
-pub rows_pass : (g : Input) (f : Flight) (b n c k : ℕ) (best : Option ℕ) → IsFlight g f b n → k < g.rows → TellsRows g (recorded g f.table.items) c k best → is_later (times f.table.items k).issue (wake_of f.wake.items k) best ≡ true → TellsRows g (recorded g f.table.items) c (k + 1) best
-rows_pass g f b n c k None h low all late = cc
-rows_pass g f b n c k (Some x) h low all late =
-    let none : (times f.table.items k).issue ≡ never = eqb-true _ _ (first_true _ _ late) in
-    let kept : x ≤ wake_of f.wake.items k = leb-true _ _ (second_true _ _ late) in
-    record {
-      completes = λ j q lt is ordered. elim (cases_eq j k) [
-        | inl here ↦ absurd (not_none (unissued_none g k f.table.items low (h.state.kept k low) none) (subst (λ i. known_of g (recorded g f.table.items) (phase (g.row i)) i ≡ Some q) here is))
-        | inr ne ↦ all.completes j q (omega (arith, lt, ne)) is ordered
-      ];
-      ready = λ j r lt waits is. elim (cases_eq j k) [
-        | inl here ↦ (λ _. (let least : wake_of f.wake.items k ≤ r = ready_late g k r f.table.items f.wake.items h.kept low h.state.kept none (subst (λ i. ready_from g (recorded g f.table.items) i ≡ Some r) here is) in omega (arith, least, kept)))
-        | inr ne ↦ all.ready j r (omega (arith, lt, ne)) waits is
-      ];
-      time = all.time;
-    }
 
 -- a row behind the next one that dispatches tells nothing
 later_waits : (g : Input) (f : Flight) (b n k : ℕ) → IsFlight g f b n → k < g.rows → f.head < k → is_waiting g (recorded g f.table.items) k ≡ true → ⊥
@@ -163,18 +73,106 @@ later_waits g f b n k h lt late waits = elim (cases_Bool (g.row k).reserved) [
         let low : i < g.rows = omega (arith, lj) in
         known_none (known_of g (recorded g f.table.items) 2 i) (row_dispatch g i f.table.items low ∙ never_is_none (times f.table.items i).dispatch _ (h.flow.waiting i (omega (arith, l)) low)) e
 
-pub rows_last : (g : Input) (f : Flight) (c b n end : ℕ) (o : Option ℕ) → IsFlight g f b n → min g.rows (f.head + 1) ≤ end → TellsRows g (recorded g f.table.items) c end o → TellsAgenda g (recorded g f.table.items) c o
-rows_last g f c b n end o h all told = record {
-  completes = λ k q lt is ordered. elim (cases_lt k end) [
-    | inl low ↦ told.completes k q low is ordered
-    | inr late ↦ absurd (not_none (unissued_none g k f.table.items lt (h.state.kept k lt) (h.flow.unissued k (omega (arith, late, all, lt)) lt)) is)
-  ];
-  ready = λ k r lt waits is. elim (cases_lt k end) [
-    | inl low ↦ told.ready k r low waits is
-    | inr late ↦ absurd (later_waits g f b n k h lt (omega (arith, late, all, lt)) waits)
-  ];
-  time = told.time;
+issued_waits : (o : Option (Fall (List ℕ))) {q : Fall (List ℕ)} (d : Bool) → o ≡ Some q → (not (is_some o) && d) ≡ true → ⊥
+issued_waits None d p e = cc
+issued_waits (Some q) d p e = cc
+
+-- a row that waits has not issued
+waits_unissued : (g : Input) (f : Flight) (b n k : ℕ) → IsFlight g f b n → k < g.rows → is_waiting g (recorded g f.table.items) k ≡ true → (times f.table.items k).issue ≡ never
+waits_unissued g f b n k h lt waits = elim (cases_eq (times f.table.items k).issue never) [
+  | inl none ↦ none
+  | inr ne ↦ absurd (issued_waits (known_of g (recorded g f.table.items) (phase (g.row k)) k) _ (issued_some g k f.table.items lt (h.state.kept k lt) ne) waits)
+]
+
+-- nor is it reserved, if it has dispatched
+waits_free : (g : Input) (f : Flight) (b n k : ℕ) → IsFlight g f b n → k < g.rows → k < f.head → (times f.table.items k).issue ≡ never → (g.row k).reserved ≡ false
+waits_free g f b n k h lt low none = elim (cases_Bool (g.row k).reserved) [
+  | inr free ↦ free
+  | inl reserved ↦ absurd (h.flow.dispatched k low (sym ((h.state.kept k lt).together reserved) ∙ none))
+]
+
+-- What the agenda and the next row tell
+
+told_past : (c n : ℕ) (o : Option ℕ) → n < c → Told c o n
+told_past c n None lt = lt
+told_past c n (Some x) lt = λ le. absurd (omega (arith, lt, le))
+
+-- a cycle that a row waits for on the agenda is told
+told_first : (agenda : Agenda) (c k t : ℕ) (o : Option ℕ) → MatchOption o (NoneWaits agenda) (IsFirst agenda) → time_of agenda k ≡ Some t → Told c o t
+told_first agenda c k t None none is = absurd (nothing (sym (none k) ∙ is))
+  where
+    nothing : None ≡ Some t → ⊥
+    nothing e = cc
+told_first agenda c k t (Some x) first is = λ le. first.least k t is
+
+first_time : (g : Input) (f : Flight) (c n : ℕ) (o : Option ℕ) → 0 < c → IsFlight g f (c - 1) n → MatchOption o (NoneWaits f.wakeup.agenda) (IsFirst f.wakeup.agenda) → SomeTime g (recorded g f.table.items) c o
+first_time g f c n None start h none = tt
+first_time g f c n (Some x) start h first =
+    let k : ℕ = first.row f.front in
+    let after : c - 1 < x = h.later k x (first.waits f.front) in
+    let own : (k < f.head) × (WaitsUntil g f.table.items k x ⊎ CompletesIn g f.table.items k x) = h.awake.exact k x (first.from f.front) (first.within f.front) (first.waits f.front) in
+    let lt : k < g.rows = omega (arith, own.0, h.flow.within) in
+    record { later = omega (arith, after, start); set = time_of_row g (recorded g f.table.items) k x lt (set_own k lt own.1) }
+  where
+    set_own : (k : ℕ) → k < g.rows → WaitsUntil g f.table.items k x ⊎ CompletesIn g f.table.items k x → list_any (nat_eq x) (all_times g (recorded g f.table.items) k) ≡ true
+    set_own k lt (inl u) = set_ready g (recorded g f.table.items) k x u.operands
+    set_own k lt (inr u) = set_complete g (recorded g f.table.items) k x _ (issued_some g k f.table.items lt (h.state.kept k lt) u.issued) (u.complete ∙ (h.state.kept k lt).complete u.issued)
+
+pub agenda_tells : (g : Input) (f : Flight) (c : ℕ) (first next : Option ℕ) → 0 < c → IsFlight g f (c - 1) (at g c 0 0) → MatchOption first (NoneWaits f.wakeup.agenda) (IsFirst f.wakeup.agenda) → TellsHead g (recorded g f.table.items) f.head next
+    → TellsAgenda g (recorded g f.table.items) c (earlier first (coming c next))
+agenda_tells g f c first next start h is tells = record {
+  completes = λ k q lt at ordered. subst (Told c (earlier first (coming c next))) (complete_at g k f.table.items q lt (h.state.kept k lt) at) (completes k q lt at ordered);
+  ready = λ k r lt waits operands. ready k r lt waits operands;
+  time = time_told g (recorded g f.table.items) c first (coming c next) (first_time g f c (at g c 0 0) first start h is) (time_coming g (recorded g f.table.items) c next tells.time);
 }
+  where
+    past : (t : ℕ) → t ≤ c - 1 → Told c (earlier first (coming c next)) t
+    past t le = told_past c t _ (omega (arith, le, start))
+
+    on_agenda : (k t : ℕ) → time_of f.wakeup.agenda k ≡ Some t → Told c (earlier first (coming c next)) t
+    on_agenda k t e = told_left c first (coming c next) t (told_first f.wakeup.agenda c k t first is e)
+
+    completes : (k : ℕ) (q : Fall (List ℕ)) → k < g.rows → known_of g (recorded g f.table.items) (phase (g.row k)) k ≡ Some q → is_ordered (g.row k).kind ≡ true → Told c (earlier first (coming c next)) (times f.table.items k).complete
+    completes k q lt at ordered =
+        let ne : (times f.table.items k).issue ≡ never → ⊥ = λ none. not_none (unissued_none g k f.table.items lt (h.state.kept k lt) none) at in
+        elim (cases_lt k f.front) [
+          | inl old ↦ past (times f.table.items k).complete (h.completed k old)
+          | inr young ↦ elim (cases_lt k f.head) [
+            | inr late ↦ absurd (ne (h.flow.unissued k late lt))
+            | inl low ↦ elim (h.awake.completes k (times f.table.items k).complete young low refl (record { ordered = ordered; issued = ne; complete = refl })) [
+              | inl come ↦ past (times f.table.items k).complete come
+              | inr waits ↦ on_agenda k (times f.table.items k).complete waits
+            ]
+          ]
+        ]
+
+    ready : (k r : ℕ) → k < g.rows → is_waiting g (recorded g f.table.items) k ≡ true → ready_from g (recorded g f.table.items) k ≡ Some r → Told c (earlier first (coming c next)) r
+    ready k r lt waits operands =
+        let none : (times f.table.items k).issue ≡ never = waits_unissued g f (c - 1) (at g c 0 0) k h lt waits in
+        elim (cases_lt k f.front) [
+          | inl old ↦ absurd (h.flow.issued k old none)
+          | inr young ↦ elim (cases_lt k f.head) [
+            | inl low ↦ elim (h.awake.ready k r young low refl (record { free = waits_free g f (c - 1) (at g c 0 0) k h lt low none; waits = none; operands = operands })) [
+              | inl p ↦ past r p.0
+              | inr p ↦ on_agenda k r p
+            ]
+            | inr late ↦ elim (cases_eq k f.head) [
+              | inr ne ↦ absurd (later_waits g f (c - 1) (at g c 0 0) k h lt (omega (arith, late, ne)) waits)
+              | inl here ↦ elim (cases_Bool (g.row k).reserved) [
+                | inr free ↦ absurd (free_waits g f (c - 1) (at g c 0 0) k h lt late free waits)
+                | inl reserved ↦ told_right c first (coming c next) r (told_coming c r next
+                    (tells.ready (subst (λ i. i < g.rows) here lt) (subst (λ i. (g.row i).reserved ≡ true) here reserved) ∙ subst (λ i. ready_from g (recorded g f.table.items) i ≡ Some r) here operands))
+              ]
+            ]
+          ]
+        ]
+
+-- what the next row tells
+pub head_none : (g : Input) (known : Known (List ℕ)) (head : ℕ) → (head < g.rows → (g.row head).reserved ≡ true → ⊥) → TellsHead g known head None
+head_none g known head never_so = record { ready = λ lt reserved. absurd (never_so lt reserved); time = λ x e. cc }
+
+pub head_ready : (g : Input) (known : Known (List ℕ)) (head : ℕ) (o : Option ℕ) → head < g.rows → o ≡ ready_from g known head → TellsHead g known head o
+head_ready g known head o lt is = record { ready = λ _ reserved. is; time = λ x e. time_of_row g known head x lt (set_ready g known head x (sym is ∙ e)) }
 
 -- The oldest row in flight
 

@@ -9,14 +9,13 @@ use Rattle.cycle_rules.specs.Row.{Input, times, phase}
 use Rattle.cycle_rules.specs.Schedule.{Fall, Known}
 use Rattle.cycle_rules.specs.Events.{known_of}
 use Rattle.cycle_rules.specs.declared.times.Times.{Times}
-use Rattle.cycle_rules.proofs.Rows.{phase_reserved, phase_free}
-use Rattle.cycle_rules.proofs.Sees.{known_in, choose_false}
-use Rattle.engine_state.specs.State.{never, if_known, recorded_in, recorded, IsWritten}
+use Rattle.cycle_rules.proofs.Sees.{known_in}
+use Rattle.engine_state.specs.State.{never, if_known, recorded, IsWritten}
 use Rattle.engine_state.proofs.State.{recorded_row}
-use Rattle.engine_state.proofs.Taken.{phase_low}
 use Rattle.engine_state.proofs.Turn.{known_is_some, never_is_none}
 use Rattle.event_rules.specs.Due.{following, listed, changes, dispatch_sets, issue_sets, all_times, ready_from}
 use Rattle.event_rules.proofs.Turns.{fails_some}
+use Rattle.engine_steps.proofs.Wakes.{row_issue}
 use Rattle.event_engine.specs.Tells.{is_time}
 
 -- What is recorded
@@ -26,14 +25,6 @@ row_dispatch g k xs lt = known_in g (recorded g xs) 2 k lt ∙ recorded_row g xs
 
 pub row_retire : (g : Input) (k : ℕ) (xs : List Times) → k < g.rows → known_of g (recorded g xs) 0 k ≡ if_known (times xs k).retire []
 row_retire g k xs lt = known_in g (recorded g xs) 0 k lt ∙ recorded_row g xs 0 k (omega arith) lt
-
-pub row_issue : (g : Input) (k : ℕ) (xs : List Times) → k < g.rows → IsWritten (g.row k) (times xs k) → known_of g (recorded g xs) (phase (g.row k)) k ≡ if_known (times xs k).issue (times xs k).units
-row_issue g k xs lt kept = known_in g (recorded g xs) (phase (g.row k)) k lt ∙ recorded_row g xs (phase (g.row k)) k (phase_low (g.row k)) lt ∙ by_kind (g.row k).reserved refl
-  where
-    by_kind : (b : Bool) → (g.row k).reserved ≡ b → recorded_in (g.row k) (times xs k) (phase (g.row k)) ≡ if_known (times xs k).issue (times xs k).units
-    by_kind true is = ap (recorded_in (g.row k) (times xs k)) (phase_reserved (g.row k) is) ∙ ap (λ b. if_known (times xs k).dispatch (if b then (times xs k).units else [])) is
-        ∙ ap (λ n. if_known n (times xs k).units) (sym (kept.together is))
-    by_kind false is = ap (recorded_in (g.row k) (times xs k)) (phase_free (g.row k) is) ∙ choose_false (g.row k).reserved _ _ is
 
 -- the time of an event that is known
 pub record IsAt (time : ℕ) (f : Fall (List ℕ)) : Type 0 where

@@ -36,10 +36,10 @@ until_right None b y h = h
 until_right (Some x) None y h = tt
 until_right (Some x) (Some z) y h = omega (arith, h)
 
-pub time_of : (g : Input) (known : Known (List ℕ)) (c : ℕ) (a b : Option ℕ) → SomeTime g known c a → SomeTime g known c b → SomeTime g known c (earlier a b)
-time_of g known c None b p q = q
-time_of g known c (Some x) None p q = p
-time_of g known c (Some x) (Some y) p q = elim (cases_lt x y) [
+pub time_told : (g : Input) (known : Known (List ℕ)) (c : ℕ) (a b : Option ℕ) → SomeTime g known c a → SomeTime g known c b → SomeTime g known c (earlier a b)
+time_told g known c None b p q = q
+time_told g known c (Some x) None p q = p
+time_told g known c (Some x) (Some y) p q = elim (cases_lt x y) [
   | inl low ↦ (let e : x ≡ min x y = omega (arith, low) in subst (λ z. IsTime g known c z) e p)
   | inr high ↦ (let e : y ≡ min x y = omega (arith, high) in subst (λ z. IsTime g known c z) e q)
 ]
@@ -99,7 +99,7 @@ turn_now g known c b le same more start is = turn_at_time g c c b le (subst (λ 
 pub turn_told : (g : Input) (known : Known (List ℕ)) (c : ℕ) (s u r t : Option ℕ) (x : ℕ) → IsBounded g → c ≤ cycle_bound g → known ≡ known_below g c → retired_by g known ≡ false → 0 < c
     → IsPast g known c → TellsFall g known c s → TellsChange g known c u → TellsFront g known c r → TellsAgenda g known c t → all_of s u r t ≡ Some x → IsTurn g c x
 turn_told g known c s u r t x b le same more start idle falls changes front agenda is =
-    let time : IsTime g known c x = subst (λ o. SomeTime g known c o) is (time_of g known c (earlier s u) (earlier r t) (time_of g known c s u falls.time changes.time) (time_of g known c r t front.time agenda.time)) in
+    let time : IsTime g known c x = subst (λ o. SomeTime g known c o) is (time_told g known c (earlier s u) (earlier r t) (time_told g known c s u falls.time changes.time) (time_told g known c r t front.time agenda.time)) in
     let clear : (k : ℕ) → k < g.rows → IsClear g known c x k = clear_of g known c s u r t x idle falls changes front agenda (λ y e. some_same x y (sym is ∙ e)) in
     turn_at_time g c x b le (subst (λ k. retired_by g k ≡ false) same more) start time.later (subst (λ k. is_time g k x ≡ true) same time.set) (λ k lk. subst (λ v. IsClear g v c x k) same (clear k lk))
   where

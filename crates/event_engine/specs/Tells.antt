@@ -1,5 +1,5 @@
 -- What the parts of an engine tell of the next cycle in which something can change. Each tells of its own times the first from c on, or that there is none.
-use Rattle.std.specs.Prelude.{⊤, ℕ, ◌+◌, ◌/◌, ◌%◌, ◌≡◌, ◌≤◌, ◌<◌, min, List, Bool, true, false, not, Option, Some, None, nat_lt, nat_le, nat_eq, if◌then◌else◌, ◌&&◌}
+use Rattle.std.specs.Prelude.{⊤, ℕ, ◌+◌, ◌/◌, ◌%◌, ◌≡◌, ◌≤◌, ◌<◌, min, List, Bool, true, false, not, Option, Some, None, nat_lt, nat_eq, if◌then◌else◌}
 use Rattle.std.specs.List.{list_any}
 use Rattle.cycle_rules.specs.Below.{all_below}
 use Rattle.cycle_rules.specs.Row.{Input, phase, uops_of}
@@ -53,21 +53,16 @@ pub record TellsFront (g : Input) (known : Known (List ℕ)) (c : ℕ) (o : Opti
   pub completed : (k : ℕ) (f : Fall (List ℕ)) → k < g.rows → known_of g known (phase (g.row k)) k ≡ Some f → is_front g known k ≡ true → Told c o (f.cycle + (g.row k).latency + 1)
   pub time : SomeTime g known c o
 
--- the rows below n tell when the operands of one that waits are there, and when one that takes part in the order of memory completes
-pub record TellsRows (g : Input) (known : Known (List ℕ)) (c n : ℕ) (o : Option ℕ) : Type 0 where
-  pub completes : (k : ℕ) (f : Fall (List ℕ)) → k < n → known_of g known (phase (g.row k)) k ≡ Some f → is_ordered (g.row k).kind ≡ true → Told c o (f.cycle + (g.row k).latency)
-  pub ready : (k r : ℕ) → k < n → is_waiting g known k ≡ true → ready_from g known k ≡ Some r → Told c o r
+-- the rows in flight tell when the operands of one that waits are there, and when one that takes part in the order of memory completes; so does the row that dispatches next, where it is reserved
+pub record TellsAgenda (g : Input) (known : Known (List ℕ)) (c : ℕ) (o : Option ℕ) : Type 0 where
+  pub completes : (k : ℕ) (f : Fall (List ℕ)) → k < g.rows → known_of g known (phase (g.row k)) k ≡ Some f → is_ordered (g.row k).kind ≡ true → Told c o (f.cycle + (g.row k).latency)
+  pub ready : (k r : ℕ) → k < g.rows → is_waiting g known k ≡ true → ready_from g known k ≡ Some r → Told c o r
   pub time : SomeTime g known c o
 
--- so do all rows
-abbrev pub TellsAgenda : Input → Known (List ℕ) → ℕ → Option ℕ → Type 0
-TellsAgenda g known c o = TellsRows g known c g.rows o
-
--- and so does one, of its own time, be it past or not
-pub record TellsRow (g : Input) (known : Known (List ℕ)) (k : ℕ) (o : Option ℕ) : Type 0 where
-  pub completes : (f : Fall (List ℕ)) → known_of g known (phase (g.row k)) k ≡ Some f → is_ordered (g.row k).kind ≡ true → o ≡ Some (f.cycle + (g.row k).latency)
-  pub ready : is_waiting g known k ≡ true → o ≡ ready_from g known k
-  pub time : (x : ℕ) → o ≡ Some x → list_any (nat_eq x) (all_times g known k) ≡ true
+-- when the operands of the row that dispatches next are there, be it past or not, where it is reserved
+pub record TellsHead (g : Input) (known : Known (List ℕ)) (head : ℕ) (o : Option ℕ) : Type 0 where
+  pub ready : head < g.rows → (g.row head).reserved ≡ true → o ≡ ready_from g known head
+  pub time : (x : ℕ) → o ≡ Some x → is_time g known x ≡ true
 
 -- a time, where it does not lie before cycle c
 abbrev pub coming : ℕ → Option ℕ → Option ℕ
@@ -83,12 +78,3 @@ pub record IsPast (g : Input) (known : Known (List ℕ)) (c : ℕ) : Type 0 wher
 -- the cycle after a completion, where the row has issued
 abbrev pub after_completion : ℕ → ℕ → Option ℕ
 after_completion issue complete = if nat_eq issue never then None else Some (complete + 1)
-
--- a completion, where the row takes part in the order of memory
-abbrev pub completion : Bool → ℕ → Option ℕ
-completion ordered complete = if ordered then Some complete else None
-
--- a row that has not issued has its operands no earlier than a time that was found, by what is kept of it
-abbrev pub is_later : ℕ → ℕ → Option ℕ → Bool
-is_later issue wake None = false
-is_later issue wake (Some x) = nat_eq issue never && nat_le x wake

@@ -1,4 +1,5 @@
-use Rattle.std.proofs.Common.{◌≡◌, ◌+◌, ◌-◌, ◌<◌, ◌++◌, ◌∷◌, [], ℕ, List, length, set, arith, sym, ◌∙◌, ap, subst, false, if◌then◌else◌}
+use Rattle.std.specs.Prelude.{nat_eq}
+use Rattle.std.proofs.Common.{◌≡◌, ◌+◌, ◌-◌, ◌<◌, ◌≤◌, ◌++◌, ◌∷◌, [], ℕ, List, length, set, arith, sym, ◌∙◌, ap, subst, false, if◌then◌else◌}
 use Rattle.cycle_rules.specs.Row.{Row, Input, times}
 use Rattle.cycle_rules.specs.declared.times.Times.{Times}
 use Rattle.dispatch_unit.specs.Kept.{StandsFor}
@@ -20,7 +21,9 @@ use Rattle.engine_steps.specs.Flight.{waiting, accesses}
 use Rattle.engine_state.proofs.State.{times_set_same}
 use Rattle.engine_steps.proofs.Falling.{dispatch_falls}
 use Rattle.engine_steps.proofs.Steps.{done_by, issued_before, issue_ahead, start_access, dispatch_starts, dispatch_buffers, dispatch_memory, completed_stays}
-use Rattle.engine_steps.proofs.Wakes.{kept_dispatch}
+use Rattle.engine_steps.proofs.Wakes.{awake_dispatches, awake_entered}
+use Rattle.engine_steps.specs.Wake.{AreAwake, except}
+use Rattle.engine_state.proofs.Reading.{issued_by}
 use Rattle.engine_steps.proofs.Waiting.{waiting_some, waiting_below}
 use Rattle.engine_steps.proofs.Accesses.{accesses_enter, accesses_few, access_waits, access_goes, memory_tie}
 use Rattle.engine_steps.proofs.Enters.{buffers_told, enters_waiting, enters_accesses}
@@ -123,6 +126,40 @@ wait_or_issue-requires-clause-memory g c =
           (start_access run (now run c.args.c xs) head c.args.c (dispatch_starts run (now run c.args.c xs) head c.args.c c.requires.may (sym (ap (λ (b : Row). b.reserved) c.instruction-b.ensures.row) ∙ reserved))),
     )
 
+-- the table as the row has dispatched
+dispatched_state : (g : _) (c : goal.After-settle-arg-1 g) → IsState (g.R.Rows.input c.args.rows.now) (at (g.R.Rows.input c.args.rows.now) c.args.c 2 (c.args.f.now.head + 1)) (set c.args.f.now.table.items c.args.f.now.head c.dispatched-row.result)
+dispatched_state g c =
+    let run : Input = g.R.Rows.input c.args.rows.now in
+    let xs : List Times = c.args.f.now.table.items in
+    let head : ℕ = c.args.f.now.head in
+    state_dispatches run c.args.c head xs c.dispatched-row.result c.requires.flight.state c.requires.row (omega (arith, c.requires.low)) (c.requires.flight.flow.waiting head (omega arith) c.requires.row) c.requires.may c.dispatched-row.ensures.row
+
+pub settle-requires-clause-size : goal.settle-requires-clause-size
+settle-requires-clause-size g c = ap (λ (ys : List Times). length ys) c.deref.ensures.value ∙ (dispatched_state g c).rows
+
+pub settle-requires-clause-kept : goal.settle-requires-clause-kept
+settle-requires-clause-kept g c = rw c.deref.ensures.value (dispatched_state g c).kept
+
+pub settle-requires-clause-past : goal.settle-requires-clause-past
+settle-requires-clause-past g c k lt = subst (λ (ys : List Times). ((times ys k).issue ≡ never → ⊥) → (times ys k).issue ≤ c.args.c) (sym c.deref.ensures.value)
+    (λ ne. issued_by (g.R.Rows.input c.args.rows.now) c.args.c 2 (c.args.f.now.head + 1) _ k (dispatched_state g c) (omega arith) (omega (arith, c.requires.row)) lt ne)
+
+pub settle-requires-clause-awake : goal.settle-requires-clause-awake
+settle-requires-clause-awake g c =
+    let run : Input = g.R.Rows.input c.args.rows.now in
+    let xs : List Times = c.args.f.now.table.items in
+    let front : ℕ = c.args.f.now.front in
+    let head : ℕ = c.args.f.now.head in
+    let few : head - front < run.machine.limits.reorder = few_in_flight run c.args.c front head xs c.requires.flight.ranges.some_uops c.requires.flight.state c.requires.flight.flow c.requires.row c.requires.may in (
+      front,
+      head + 1,
+      λ i. nat_eq i head,
+      c.requires.flight.flow.order,
+      omega arith,
+      subst (λ (ys : List Times). AreAwake run ys c.args.f.now.wakeup front (head + 1) c.args.c (λ i. nat_eq i head)) (sym c.deref.ensures.value)
+          (awake_dispatches run xs c.args.f.now.wakeup front head c.args.c c.dispatched-row.result c.requires.flight.awake c.requires.flight.flow.order (omega (arith, few, c.requires.flight.ranges.reorder_high)) (omega (arith, c.requires.row, c.requires.flight.state.rows)) c.dispatched-row.ensures.row),
+    )
+
 pub returns-clause-units : goal.returns-clause-units
 returns-clause-units g c =
     let run : Input = g.R.Rows.input c.args.rows.now in
@@ -178,7 +215,10 @@ returns-clause-flight g c =
             (λ k low. done_by run c.args.c 2 head front head k xs c.requires.flight.state c.requires.flight.flow c.requires.flight.completed low)
             (start_access run (now run c.args.c xs) head c.args.c (dispatch_starts run (now run c.args.c xs) head c.args.c c.requires.may (sym (ap (λ (b : Row). b.reserved) c.instruction-b.ensures.row) ∙ reserved)))));
       };
-      kept = kept_dispatch run c.args.c head xs c.args.f.now.wake.items v c.requires.flight.kept c.requires.flight.state.rows c.requires.row none (omega (arith, c.requires.low)) c.dispatched-row.ensures.row;
+      awake = awake_entered run (set xs head v) c.settle.new.w front (head + 1) head c.args.c (subst (λ (ys : List Times). AreAwake run ys c.settle.new.w front (head + 1) c.args.c (except head (λ i. nat_eq i head))) c.deref.ensures.value
+          (c.settle.ensures.awake front (head + 1) (λ i. nat_eq i head) c.requires.flight.flow.order (omega arith) (subst (λ (ys : List Times). AreAwake run ys c.args.f.now.wakeup front (head + 1) c.args.c (λ i. nat_eq i head)) (sym c.deref.ensures.value)
+          (awake_dispatches run xs c.args.f.now.wakeup front head c.args.c v c.requires.flight.awake c.requires.flight.flow.order (omega (arith, few, c.requires.flight.ranges.reorder_high)) long c.dispatched-row.ensures.row))));
+      later = c.settle.ensures.later c.requires.flight.later;
     }
 
 pub returns-clause-event : goal.returns-clause-event

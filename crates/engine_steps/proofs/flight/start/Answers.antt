@@ -11,7 +11,7 @@ use Rattle.engine_state.specs.Flight.{IsFlow}
 use Rattle.engine_state.proofs.End.{state_start}
 use Rattle.engine_state.proofs.Flow.{flow_start}
 use Rattle.reorder_buffer.specs.declared.rob.RobEntry.{RobEntry}
-use Rattle.engine_steps.proofs.Wakes.{kept_start}
+use Rattle.engine_steps.proofs.Wakes.{awake_start, later_start}
 use Rattle.engine_steps.proofs.flight.start.Goals as goal
 
 pub returns : goal.returns
@@ -36,5 +36,6 @@ returns g c =
         low = omega arith;
         stand = subst (λ (l : Limits). MemoryStandsFor l c.in_ok-memory.memory 0 []) limits c.in_ok-memory.ensures;
       };
-      kept = kept_start run c.in_ok-table.table.items c.in_ok-wake.wake.items (c.in_ok-wake.ensures.items_if_clones_equal (λ y e. e) ∙ ap (λ n. replicate n 0) c.count-2.ensures);
+      awake = awake_start run c.in_ok-table.table.items c.in_ok-wakeup.wakeup c.in_ok-wakeup.ensures;
+      later = later_start c.in_ok-wakeup.wakeup.agenda 0 c.in_ok-wakeup.ensures;
     }

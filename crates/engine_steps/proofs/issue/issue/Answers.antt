@@ -12,6 +12,7 @@ use Rattle.mem_queues.specs.Order.{is_plain, with_issue}
 use Rattle.resource_units.specs.Stand.{StandsFor as UnitsStandFor}
 use Rattle.engine_state.specs.State.{now, taken_now, at, IsState}
 use Rattle.engine_state.specs.Writes.{IsIssued}
+use Rattle.engine_state.proofs.Reading.{issued_by}
 use Rattle.engine_state.proofs.Turn.{read_row}
 use Rattle.engine_state.proofs.Writes.{state_issues}
 use Rattle.engine_state.proofs.TakenRows.{taken_issues}
@@ -20,8 +21,9 @@ use Rattle.engine_state.proofs.PartRows.{group_stays}
 use Rattle.engine_steps.specs.Flight.{waiting, accesses}
 use Rattle.engine_state.proofs.State.{times_set_same}
 use Rattle.engine_steps.proofs.Falling.{issue_falls}
-use Rattle.engine_steps.proofs.Steps.{picked, start_found, start_access, done_by, issue_start, issue_ahead, issue_set, completed_stays}
-use Rattle.engine_steps.proofs.Wakes.{kept_issue}
+use Rattle.engine_steps.proofs.Steps.{picked, start_found, start_operands, start_access, done_by, issue_start, issue_ahead, issue_set, completed_stays}
+use Rattle.engine_steps.specs.Wake.{AreAwake, none_out, reads_from}
+use Rattle.engine_steps.proofs.Wakes.{awake_issues}
 use Rattle.engine_steps.proofs.Waiting.{waiting_in, waiting_issues}
 use Rattle.engine_steps.proofs.Accesses.{accesses_issue, access_waits, access_goes}
 use Rattle.engine_steps.proofs.issue.issue.Goals as goal
@@ -70,6 +72,51 @@ issue_memory-requires g c =
           (λ k low. done_by run c.args.c 1 c.args.j c.args.f.now.front c.args.f.now.head k xs c.requires.flight.state c.requires.flight.flow c.requires.flight.completed low)
           (start_access run (now run c.args.c xs) c.args.j c.args.c (issue_start run (now run c.args.c xs) c.args.j c.args.c c.requires.may)),
     )
+
+-- the table as the row has issued
+issued_state : (g : _) (c : goal.After-wake_readers-arg-1 g) → IsState (g.R.Rows.input c.args.rows.now) (at (g.R.Rows.input c.args.rows.now) c.args.c 1 (c.args.j + 1)) c.deref.result.now
+issued_state g c =
+    let run : Input = g.R.Rows.input c.args.rows.now in
+    let xs : List Times = c.args.f.now.table.items in
+    let lt : c.args.j < run.rows = omega (arith, c.requires.head, c.requires.flight.flow.within) in
+    let m : c.index-row.result.now ≡ times xs c.args.j = read_row _ _ _ _ _ c.requires.flight.state lt c.index-row.ensures in
+    let v : Times = record { dispatch = c.index-row.result.now.dispatch; issue = c.args.c; complete = c.args.c + c.instruction-b.result.now.latency; retire = c.index-row.result.now.retire; units = c.take.result } in
+    let w : IsIssued run xs c.args.j c.args.c v = record {
+      dispatch = ap (λ t. t.dispatch) m;
+      issue = refl;
+      complete = ap (λ (b : Row). c.args.c + b.latency) c.instruction-b.ensures.row;
+      units = c.take.ensures.units (taken_now run c.args.c xs) c.requires.units ∙ ap (λ o. padded o) (picked run c.args.c c.args.j xs _ _ c.requires.machine c.instruction-b.ensures.row);
+      retire = ap (λ t. t.retire) m;
+    } in
+    subst (IsState run (at run c.args.c 1 (c.args.j + 1))) (sym c.deref.ensures.value) (state_issues run c.args.c c.args.j xs v c.requires.flight.state lt (omega (arith, c.requires.low)) c.requires.free c.requires.none c.requires.may w)
+
+issued_awake : (g : _) (c : goal.After-wake_readers-arg-1 g) → AreAwake (g.R.Rows.input c.args.rows.now) c.deref.result.now c.args.f.now.wakeup c.args.f.now.front c.args.f.now.head c.args.c (reads_from (g.R.Rows.input c.args.rows.now) c.args.j)
+issued_awake g c =
+    let run : Input = g.R.Rows.input c.args.rows.now in
+    let xs : List Times = c.args.f.now.table.items in
+    let lt : c.args.j < run.rows = omega (arith, c.requires.head, c.requires.flight.flow.within) in
+    subst (λ (ys : List Times). AreAwake run ys c.args.f.now.wakeup c.args.f.now.front c.args.f.now.head c.args.c (reads_from run c.args.j)) (sym c.deref.ensures.value)
+    (awake_issues run xs c.args.f.now.wakeup c.args.f.now.front c.args.f.now.head c.args.c c.args.j _ c.requires.flight.awake c.requires.flight.later c.requires.front c.requires.head lt c.requires.flight.state.rows (c.requires.flight.state.kept c.args.j lt) c.requires.none
+    (start_operands run (now run c.args.c xs) c.args.j c.args.c (issue_start run (now run c.args.c xs) c.args.j c.args.c c.requires.may)))
+
+pub wake_readers-requires-clause-size : goal.wake_readers-requires-clause-size
+wake_readers-requires-clause-size g c = (issued_state g c).rows
+
+pub wake_readers-requires-clause-kept : goal.wake_readers-requires-clause-kept
+wake_readers-requires-clause-kept g c = (issued_state g c).kept
+
+pub wake_readers-requires-clause-past : goal.wake_readers-requires-clause-past
+wake_readers-requires-clause-past g c k lt ne = issued_by (g.R.Rows.input c.args.rows.now) c.args.c 1 (c.args.j + 1) c.deref.result.now k (issued_state g c) (omega arith) (omega (arith, c.requires.head, c.requires.flight.flow.within)) lt ne
+
+pub wake_readers-requires-clause-issued : goal.wake_readers-requires-clause-issued
+wake_readers-requires-clause-issued g c none =
+    let run : Input = g.R.Rows.input c.args.rows.now in
+    let lt : c.args.j < run.rows = omega (arith, c.requires.head, c.requires.flight.flow.within) in
+    let issue : (times c.deref.result.now c.args.j).issue ≡ c.args.c = ap (λ (ys : List Times). (times ys c.args.j).issue) c.deref.ensures.value ∙ ap (λ (t : Times). t.issue) (times_set_same c.args.f.now.table.items c.args.j _ (omega (arith, lt, c.requires.flight.state.rows))) in
+    omega (arith, issue, none, c.requires.low)
+
+pub wake_readers-requires-clause-awake : goal.wake_readers-requires-clause-awake
+wake_readers-requires-clause-awake g c = (c.args.f.now.front, c.requires.front, issued_awake g c)
 
 pub returns-clause-units : goal.returns-clause-units
 returns-clause-units g c =
@@ -134,7 +181,8 @@ returns-clause-flight g c =
             (λ k low. done_by run c.args.c 1 c.args.j c.args.f.now.front c.args.f.now.head k xs c.requires.flight.state c.requires.flight.flow c.requires.flight.completed low)
             (start_access run (now run c.args.c xs) c.args.j c.args.c (issue_start run (now run c.args.c xs) c.args.j c.args.c c.requires.may))));
       };
-      kept = kept_issue run c.args.c c.args.f.now.head c.args.j _ xs c.args.f.now.wake.items v c.requires.flight.kept c.requires.flight.state.rows c.requires.head lt c.requires.none c.requires.woken refl (omega (arith, c.requires.low));
+      awake = subst (λ (ys : List Times). AreAwake run ys c.wake_readers.new.w c.args.f.now.front c.args.f.now.head c.args.c none_out) c.deref.ensures.value (c.wake_readers.ensures.awake c.args.f.now.front c.requires.front (issued_awake g c.before));
+      later = c.wake_readers.ensures.later c.requires.flight.later;
     }
 
 pub returns-clause-event : goal.returns-clause-event

@@ -1,4 +1,4 @@
-use Rattle.std.proofs.Common.{◌≡◌, true, false}
+use Rattle.std.proofs.Common.{◌≡◌, ◌≤◌, ◌-◌, true, false}
 use Rattle.resource_units.specs.Stand.{StandsFor, machine_of}
 use Rattle.engine_state.specs.State.{at, taken_now}
 use Rattle.engine_steps.specs.Done.{Falls}
@@ -13,7 +13,12 @@ invariant-loop-j g l = record {
   machine : machine_of g.M.Machine.meaning l.units ≡ (g.R.Rows.input l.rows).machine;
   front : l.f.front ≡ l.initial.f.front;
   head : l.f.head ≡ l.initial.f.head;
+  from : l.f.front ≤ l.j;
+  end : l.j ≤ l.f.head;
   event : l.any ≡ true → Falls (g.R.Rows.input l.rows) l.c;
   refused : AreRefused (g.R.Rows.input l.rows).machine (taken_now (g.R.Rows.input l.rows) l.c l.f.table.items) l.c l.refused;
   none : l.any ≡ false → l.f.table.items ≡ l.initial.f.table.items;
 }
+
+abbrev pub decreases-loop-j : goal.decreases-loop-j
+decreases-loop-j g l = l.f.head - l.j

@@ -8,15 +8,15 @@ use Rattle.engine_steps.specs.Links.{IsBack}
 use Rattle.engine_steps.proofs.Producers.{link_zero, link_told}
 use Rattle.engine_steps.proofs.links.link_to.Goals as goal
 
-pub returns-then-number-eq0 : goal.returns-then-number-eq0
-returns-then-number-eq0 g c = link_zero _ _ c.args.place c.args.read (record { back = 0; lead = 0 }) (sym c.number.ensures.value ∙ c.if-number-eq0.true) refl
+pub returns-then-number-eq0-clause-link : goal.returns-then-number-eq0-clause-link
+returns-then-number-eq0-clause-link g c = link_zero _ _ c.args.place c.args.read (record { back = 0; lead = 0 }) (sym c.number.ensures.value ∙ c.if-number-eq0.true) refl
 
-pub returns-then-back-eq0 : goal.returns-then-back-eq0
-returns-then-back-eq0 g c = link_told (g.M.Machine.meaning c.args.machine.now) (map row_of c.args.body.now) c.args.place c.args.read (record { back = 0; lead = 0 }) (λ e. c.if-number-eq0.false (c.number.ensures.value ∙ e)) (omega (arith, length-map c.args.body.now row_of, c.requires.place))
+pub returns-then-back-eq0-clause-link : goal.returns-then-back-eq0-clause-link
+returns-then-back-eq0-clause-link g c = link_told (g.M.Machine.meaning c.args.machine.now) (map row_of c.args.body.now) c.args.place c.args.read (record { back = 0; lead = 0 }) (λ e. c.if-number-eq0.false (c.number.ensures.value ∙ e)) (omega (arith, length-map c.args.body.now row_of, c.requires.place))
     (subst (IsBack (map row_of c.args.body.now) c.args.place c.args.read.reg) c.if-back-eq0.true c.requires.back) (λ ne. absurd (ne refl))
 
-pub returns : goal.returns
-returns g c =
+pub returns-clause-link : goal.returns-clause-link
+returns-clause-link g c =
     let q : ℕ = (c.args.place + length c.args.body.now - c.args.back) % length c.args.body.now in
     let within : q < length c.args.body.now = mod-lt (c.args.place + length c.args.body.now - c.args.back) (omega (arith, c.requires.place)) in
     let row : row_of c.index-body-place.result ≡ slice_index_or (map row_of c.args.body.now) ((c.args.place + length (map row_of c.args.body.now) - c.args.back) % length (map row_of c.args.body.now)) no_row =

@@ -17,7 +17,7 @@ use Rattle.engine_state.proofs.Flow.{flow_retires}
 use Rattle.engine_state.proofs.PartRows.{group_stays, rob_leaves, write_leaves, write_there}
 use Rattle.engine_steps.specs.Flight.{accesses}
 use Rattle.engine_steps.proofs.Steps.{Retires, retires, completed_next, since_low}
-use Rattle.engine_steps.proofs.Wakes.{kept_issues}
+use Rattle.engine_steps.proofs.Wakes.{awake_retires}
 use Rattle.engine_steps.proofs.Waiting.{waiting_leaves}
 use Rattle.engine_steps.proofs.Accesses.{accesses_done, accesses_leave}
 use Rattle.engine_steps.proofs.retire.retire_front.Goals as goal
@@ -81,5 +81,6 @@ returns-clause-flight g c =
             (c.leave_memory.ensures run.machine.limits c.requires.flight.memory.since (accesses run c.args.c c.args.f.now.table.items c.args.f.now.front c.args.f.now.head) c.requires.flight.memory.stand c.requires.flight.memory.low
             (λ kind. accesses_done run c.args.c c.args.f.now.front c.args.f.now.head c.args.f.now.table.items c.requires.row (sym (ap (λ (b : Row). is_plain b.kind) c.instruction-b.ensures.row) ∙ kind) what.issue_now what.complete_now));
       };
-      kept = kept_issues run c.args.f.now.front c.args.f.now.head c.args.f.now.front c.args.f.now.table.items c.args.f.now.wake.items v c.requires.flight.kept (omega (arith, lt, c.requires.flight.state.rows)) w.issue;
+      awake = awake_retires run c.args.f.now.table.items c.args.f.now.wakeup c.args.f.now.front c.args.f.now.head c.args.c v c.requires.flight.awake c.requires.flight.later (omega (arith, lt, c.requires.flight.state.rows)) w what.issued (omega (arith, what.completed));
+      later = c.requires.flight.later;
     }
