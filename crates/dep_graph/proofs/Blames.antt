@@ -16,7 +16,7 @@ use Rattle.cycle_rules.specs.Pick.{Taken, holds_at, pick_unit, pick_units, add_f
 use Rattle.cycle_rules.specs.Held.{taken_of}
 use Rattle.critical_chain.specs.Graph.{place}
 use Rattle.dep_graph.specs.Blamed.{is_before, later_of, last_issued, holds_unit, holder_of, busy_in, then_try, resource_blamed}
-use Rattle.dep_graph.specs.Holders.{noted, taken_along, holds_one, taker_at, AreHolders, IsGreatest, IsLast}
+use Rattle.dep_graph.specs.Holders.{noted, taken_along, holds_one, taker_at, AreHolders, IsGreatest, IsLast, IsTop}
 use Rattle.dep_graph.specs.RunGraph.{IsIssueOrder}
 use Rattle.dep_graph.specs.Taking.{AreFirst}
 use Rattle.dep_graph.specs.declared.holders.Taker.{Taker}
@@ -35,6 +35,17 @@ last_over n test places (Some p) off h = record {
   most = λ u lt is. elim (cases_lt u n) [ inl low ↦ h.most u low is | inr last ↦ absurd (let e : u ≡ n = omega (arith, last, lt) in false≢true (sym off ∙ sym (ap test e) ∙ is)) ];
 }
 
+-- the same of more numbers that do not pass
+pub last_up_to : (n m : ℕ) (test : ℕ → Bool) (places : ℕ → ℕ) (best : Option ℕ) → n ≤ m → ((u : ℕ) → n ≤ u → u < m → test u ≡ false) → IsLast n test places best → IsLast m test places best
+last_up_to n m test places None le off h = λ u lt. elim (cases_lt u n) [ inl low ↦ h u low | inr past ↦ off u past lt ]
+last_up_to n m test places (Some p) le off h = record {
+  number = h.number;
+  within = omega (arith, h.within, le);
+  passes = h.passes;
+  at = h.at;
+  most = λ u lt is. elim (cases_lt u n) [ inl low ↦ h.most u low is | inr past ↦ absurd (false≢true (sym (off u past lt) ∙ is)) ];
+}
+
 pub last_first : (n : ℕ) (test : ℕ → Bool) (places : ℕ → ℕ) (p : ℕ) → test n ≡ true → places n ≡ p → ((u : ℕ) → u < n → test u ≡ false) → IsGreatest (n + 1) test places p
 last_first n test places p on at h = record {
   number = n;
@@ -51,6 +62,20 @@ last_found n test places p q best on at h is =
       | inl less ↦ record { number = n; within = omega arith; passes = on; at = omega (arith, at, is, less); most = most }
       | inr more ↦ record { number = h.number; within = omega (arith, h.within); passes = h.passes; at = omega (arith, h.at, is, more); most = most }
     ]
+
+-- that of the last row that took units, where it holds one of them
+pub top_is : (has : ℕ → Bool) (n taken c p : ℕ) (last : List Taker) → length last ≡ n → ((u : ℕ) → u < length last → c < (taker_at last u).until → (taker_at last u).place < taken) → IsTop has taken c last p
+    → IsGreatest n (λ u. has u && nat_lt c (taker_at last u).until) (λ u. (taker_at last u).place) p
+top_is has n taken c p last size low h = record {
+  number = h.unit;
+  within = omega (arith, h.within, size);
+  passes = ap (λ b. b && nat_lt c (taker_at last h.unit).until) h.member ∙ (let lt : c < (taker_at last h.unit).until = h.held in grind (arith, nat_tests, lt));
+  at = h.at;
+  most = λ u lt is.
+      let parts : (has u ≡ true) × (nat_lt c (taker_at last u).until ≡ true) = and_parts _ _ is in
+      let soon : c < (taker_at last u).until = grind (arith, nat_tests, parts.1) in
+      omega (arith, low u (omega (arith, lt, size)) soon, h.top);
+}
 
 -- Notes
 

@@ -1,5 +1,6 @@
 pub mod WorkedWaits
 pub mod Spans
+pub mod Parts
 pub mod Past
 pub mod Holding
 pub mod Runs

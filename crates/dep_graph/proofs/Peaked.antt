@@ -84,6 +84,10 @@ store_peak g t j fences is h = pass_of g t j Store fences.store is (peak_same _ 
 pub barrier_peak : (g : Input) (t : Table) (j : ℕ) (fences : Fences) → (g.row j).kind ≡ Barrier → AreFences g t j fences → IsPeak (pass_time g t j) j fences.barrier
 barrier_peak g t j fences is h = pass_of g t j Barrier fences.barrier is (peak_same _ _ j fences.barrier (λ k lt. barrier_free (g.row k).kind g.machine.limits.no_alias true (is_fenced g k j) (t k).issue (t k).complete) h.barrier)
 
+pub no_fence : (is_store Plain || is_barrier Plain) ≡ false
+unfolding is_store is_barrier
+no_fence = refl
+
 -- behind a store or a barrier every older row is fenced off
 fenced_more : (g : Input) (k n : ℕ) → k < n → (is_store (g.row n).kind || is_barrier (g.row n).kind) ≡ true → is_fenced g k (n + 1) ≡ true
 unfolding is_fenced

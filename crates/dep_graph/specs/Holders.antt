@@ -42,3 +42,12 @@ pub record IsGreatest (n : ℕ) (test : ℕ → Bool) (place : ℕ → ℕ) (p :
 abbrev pub IsLast : ℕ → (ℕ → Bool) → (ℕ → ℕ) → Option ℕ → Type 0
 IsLast n test place None = (u : ℕ) → u < n → test u ≡ false
 IsLast n test place (Some p) = IsGreatest n test place p
+
+-- the last of the first rows that took units holds one of some units in a cycle; p is its place
+pub record IsTop (has : ℕ → Bool) (taken c : ℕ) (last : List Taker) (p : ℕ) : Type 0 where
+  pub unit : ℕ
+  pub within : unit < length last
+  pub member : has unit ≡ true
+  pub held : c < (taker_at last unit).until
+  pub at : (taker_at last unit).place ≡ p
+  pub top : p + 1 ≡ taken

@@ -1,5 +1,5 @@
 //! How far the dispatch groups are filled.
-ghost use Rattle.std.specs.Prelude.{◌≡◌, ◌<◌, ◌≤◌, ◌+◌, ◌-◌, ◌^◌, ℕ, true, not, ◌&&◌, ◌||◌, nat_eq, nat_le, if◌then◌else◌};
+ghost use Rattle.std.specs.Prelude.{◌≡◌, ◌<◌, ◌≤◌, ◌+◌, ◌-◌, ◌/◌, ◌^◌, ℕ, true, not, ◌&&◌, ◌||◌, nat_eq, nat_le, if◌then◌else◌};
 ghost use Rattle.cycle_rules.specs.Row.{Input, Table, uops_of};
 ghost use Rattle.cycle_rules.specs.Dispatch.{fits_group};
 ghost use Rattle.machine_model.specs.Valid.{AreLimits};
@@ -25,6 +25,20 @@ fn most_left(is_open: bool, width: u64, uops: u64, begins: bool) -> u64
         return 0;
     }
     width.saturating_sub(uops)
+}
+
+// In how many cycles so many micro-ops dispatch. Mostly there are none, since a row finds place at
+// once, and then no division is made: it is slow.
+fn cycles_for(uops: u64, width: u64) -> u64
+    requires width { 1 ≤ width }
+    requires wide { width ≤ 64 }
+    requires few { uops ≤ 65536 }
+    ensures { result ≡ (uops + width - 1) / width }
+{
+    if uops == 0 {
+        return 0;
+    }
+    (uops + width - 1) / width
 }
 
 // Whether rows may join what is left in a later cycle.
@@ -61,7 +75,7 @@ impl Fill {
         let width = width as u64;
         let most = most_left(self.is_open, width, uops as u64, begins);
         let over = self.left.saturating_sub(most);
-        at + (over + width - 1) / width
+        at + cycles_for(over, width)
     }
 
     /// The same some cycles later.

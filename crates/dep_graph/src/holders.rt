@@ -1,12 +1,13 @@
 //! Which row holds a unit, while the rows of a run go by in issue order.
-ghost use Rattle.std.specs.Prelude.{◌≡◌, ◌<◌, ◌≤◌, ◌+◌, ◌-◌, ◌^◌, ℕ, List, [], ◌∷◌, length, map, slice_index, take, true, ◌&&◌, nat_le, nat_lt, is_some, Bool};
+ghost use Rattle.std.specs.Prelude.{◌≡◌, ◌<◌, ◌≤◌, ◌+◌, ◌-◌, ◌^◌, ℕ, List, [], ◌∷◌, length, map, slice_index, take, true, ◌&&◌, nat_le, nat_lt, is_some, Bool, IfSome, MatchOption};
 ghost use Rattle.std.specs.List.{list_all};
 ghost use Rattle.cycle_rules.specs.Bind.{row_of, IsBound};
 ghost use Rattle.cycle_rules.specs.Pick.{Taken, pick_units, taken_by};
 ghost use Rattle.cycle_rules.specs.Row.{times};
 ghost use Rattle.resource_units.specs.Stand.{StandsFor, machine_of};
+ghost use Rattle.unit_sets.specs.Members.{IsNext, NoneFrom};
 ghost use Rattle.dep_graph.specs.Blamed.{busy_in};
-ghost use Rattle.dep_graph.specs.Holders.{AreHolders, IsLast, noted, taken_along, taker_at};
+ghost use Rattle.dep_graph.specs.Holders.{AreHolders, IsLast, IsTop, noted, taken_along, taker_at};
 ghost use Rattle.dep_graph.specs.RunGraph.{IsIssueOrder};
 ghost use Rattle.dep_graph.specs.Walk.{IsSoundRun};
 
@@ -126,6 +127,9 @@ fn are_met<M: Machine>(units: &Units<M>, b: &Bound, n: u8, c: u64) -> bool
         result ≡ is_some (pick_units (machine_of M.meaning units.now) taken c (take n
         (row_of b.now).uses)) }
 {
+    if n == b.use_count {
+        return units.can_take(b, c);
+    }
     units.can_take(&first_uses(b, n), c)
 }
 
@@ -157,27 +161,85 @@ fn later(best: Option<u32>, counts: bool, place: u32) -> Option<u32>
     }
 }
 
-// Whether a unit is one of a set that is held in a cycle.
-fn is_held<K: UnitMask>(units: &K, unit: usize, until: u64, c: u64) -> bool
-    requires { unit < K.SIZE }
-    ensures { result ≡ (K.holds units.now unit && nat_lt c until) }
+// The least unit of a set from `pos` on and below `end`.
+fn next_unit<K: UnitMask>(units: &K, pos: usize, end: usize) -> Option<usize>
+    requires within { pos < end }
+    requires fits { end ≤ K.SIZE }
+    ensures { MatchOption result (NoneFrom end (K.holds units.now) pos) (IsNext end
+        (K.holds units.now) pos) }
 {
-    units.has(unit) && c < until
+    match units.first_from(pos) {
+        Some(unit) if unit >= pos && unit < end => Some(unit),
+        _ => None,
+    }
 }
 
-/// Of the rows that hold a unit of a resource in a cycle the place of the last one.
-pub fn last_holder<M: Machine>(machine: &M, last: &[Taker], r: usize, c: u64) -> Option<u32>
+// Whether a unit is held in a cycle, and by the last of the rows that have taken units.
+fn is_top(taker: Taker, taken: usize, c: u64) -> bool
+    ensures held { result ≡ true → c < taker.until }
+    ensures last { result ≡ true → taker.place + 1 ≡ taken }
+{
+    c < taker.until && taker.place as usize + 1 == taken
+}
+
+// The place of the last of the rows that have taken units, where it holds a given unit in a cycle,
+// and that is one of a set.
+fn top_at<K: UnitMask>(
+    units: &K,
+    last: &[Taker],
+    taken: usize,
+    unit: Option<u16>,
+    c: u64,
+) -> Option<u32>
+    requires fits { length last.now ≤ K.SIZE }
+    ensures { IfSome result (IsTop (K.holds units.now) taken c last.now) }
+{
+    let unit = unit? as usize;
+    if unit >= last.len() {
+        return None;
+    }
+    if !units.has(unit) {
+        return None;
+    }
+    if !is_top(last[unit], taken, c) {
+        return None;
+    }
+    Some(last[unit].place)
+}
+
+/// Of the rows that hold a unit of a resource in a cycle the place of the last one, where so many
+/// rows have taken units, the first in issue order. Often the last of these holds the unit that was
+/// chosen last for the resource, and so is the one; else the work grows with the units of the
+/// resource, not with those of the machine.
+pub fn last_holder<M: Machine>(
+    machine: &M,
+    last: &[Taker],
+    taken: usize,
+    chosen: Option<u16>,
+    r: usize,
+    c: u64,
+) -> Option<u32>
     requires resource { r < (M.meaning machine.now).resource_count }
     requires size { length last.now ≡ (M.meaning machine.now).unit_count }
+    requires taken { (u : ℕ) → u < length last.now → c < (taker_at last.now u).until →
+        (taker_at last.now u).place < taken }
     ensures { IsLast (M.meaning machine.now).unit_count
         (λ u. (M.meaning machine.now).units r u && nat_lt c (taker_at last.now u).until)
         (λ u. (taker_at last.now u).place) result }
 {
     let units = machine.mask(r);
+    if let Some(place) = top_at(&units, last, taken, chosen, c) {
+        return Some(place);
+    }
     let mut best = None;
-    for u in 0..last.len() {
-        let taker = last[u];
-        best = later(best, is_held(&units, u, taker.until, c), taker.place);
+    let mut pos = 0;
+    while pos < last.len() {
+        let Some(unit) = next_unit(&units, pos, last.len()) else {
+            return best;
+        };
+        let taker = last[unit];
+        best = later(best, c < taker.until, taker.place);
+        pos = unit + 1;
     }
     best
 }

@@ -31,6 +31,7 @@ ghost use Rattle.mca_fixed.specs.declared.limits.TheConstants.{MOST_ROWS};
 ghost use Rattle.dep_graph.specs.Worked.{worked_edges, worked_stalls};
 
 mod counts;
+mod deal;
 mod fill;
 mod graph;
 mod holders;

@@ -99,6 +99,10 @@ impl Fences {
             (t row).complete ≡ complete → AreFences g t row self.old →
             AreFences g t (row + 1) self.new }
     {
+        // Most rows do nothing with memory, and hold nothing back.
+        if let Kind::Plain = kind {
+            return;
+        }
         self.fenced
             .raise(lets_load(kind, no_alias, issue, complete), row);
         self.store

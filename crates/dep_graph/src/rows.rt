@@ -1,5 +1,5 @@
 //! The rows of a run, and when they did what.
-ghost use Rattle.std.specs.Prelude.{◌≡◌, ◌<◌, ◌≤◌, ◌*◌, ℕ, List, length, map, true, ◌||◌, nat_eq, nat_lt};
+ghost use Rattle.std.specs.Prelude.{◌≡◌, ◌<◌, ◌≤◌, ◌+◌, ◌*◌, ◌/◌, ◌%◌, ◌^◌, ℕ, List, length, map, true, ◌||◌, nat_eq, nat_lt};
 ghost use Rattle.cycle_rules.specs.Bind.{row_of, IsBound, AreBound};
 ghost use Rattle.cycle_rules.specs.Row.{Input, times, lead, advance_of};
 ghost use Rattle.machine_model.specs.Valid.{no_class};
@@ -52,6 +52,9 @@ pub trait Rows {
         ensures { result.now ≡ times (table self.now) j };
 }
 
+// In how many parts an iteration is counted (`Run::place`).
+const PARTS: u64 = 1 << 40;
+
 /// A body that is bound by a machine, how often it is repeated, and the times of its rows.
 #[derive(Drop)]
 pub struct Run<'a, M: Machine> {
@@ -59,9 +62,12 @@ pub struct Run<'a, M: Machine> {
     body: &'a [Bound],
     iterations: usize,
     table: &'a [Times],
+    // How many parts of an iteration a row takes, rounded up.
+    parts: u64,
     ghost some: { 0 < length body.now },
     ghost few: { iterations * length body.now ≤ MOST_ROWS },
     ghost bound: { AreBound (M.meaning machine.now) body.now },
+    ghost rounded: { parts ≡ 2 ^ 40 / length body.now + 1 },
 }
 
 impl<'a, M: Machine> Run<'a, M> {
@@ -85,7 +91,18 @@ impl<'a, M: Machine> Run<'a, M> {
             body,
             iterations,
             table,
+            parts: PARTS / body.len() as u64 + 1,
         }
+    }
+
+    // The place of a row in the body, `row % body.len()`: a product and a shift find its iteration,
+    // in a fraction of the time of a division.
+    fn place(&self, row: usize) -> usize
+        requires { row < self.now.iterations * length self.now.body.now }
+        ensures { result ≡ row % length self.now.body.now }
+    {
+        let iteration = row as u64 * self.parts / PARTS;
+        row - iteration as usize * self.body.len()
     }
 }
 
@@ -113,7 +130,7 @@ impl<'a, M: Machine> Rows for Run<'a, M> {
     }
 
     fn instruction(&self, j: usize) -> &Bound {
-        &self.body[j % self.body.len()]
+        &self.body[self.place(j)]
     }
 
     fn lead(&self, read: u16, k: usize) -> u32 {

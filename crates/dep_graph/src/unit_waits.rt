@@ -1,7 +1,6 @@
 //! The waits of rows for units.
 ghost use Rattle.std.specs.Prelude.{◌≡◌, ◌<◌, ◌≤◌, ◌+◌, ◌-◌, ℕ, length, slice_index, ◌&&◌, nat_lt};
 ghost use Rattle.cycle_rules.specs.Row.{times, phase};
-ghost use Rattle.cycle_rules.specs.Seen.{key_at, comes_before};
 ghost use Rattle.cycle_rules.specs.Waits.{resource_wait};
 ghost use Rattle.critical_chain.specs.declared.graph.EdgeKind.{EdgeKind as EdgeKindOf};
 ghost use Rattle.critical_chain.specs.declared.graph.EdgeKind.TheVariants.{Resource};
@@ -14,19 +13,11 @@ ghost use Rattle.dep_graph.specs.Taking.{IsTaking, AreFirst, asks_after, wait_ed
 ghost use Rattle.dep_graph.specs.Walk.{IsSoundRun};
 
 use crate::holders::{Taker, first_busy, last_holder, take_row};
-use crate::order::phase;
+use crate::order::{phase, precedes};
 use crate::rows::Rows;
 use crate::waits::{Wait, Waits, earliest};
 use machine_model::Machine;
 use resource_units::Units;
-
-// Whether a key of cycle, phase and row comes before another.
-#[tactic(auto, unfolding(cycle_rules::specs::Seen::comes_before))]
-fn precedes(c: u64, p: u8, k: u32, d: u64, q: u8, j: u32) -> bool
-    ensures { result ≡ comes_before (key_at c p k) (key_at d q j) }
-{
-    c < d || (c == d && (p < q || (p == q && k < j)))
-}
 
 // Whether there is a row at a place of the order, which issues before the one at another place
 // looks for units in vain.
@@ -111,7 +102,8 @@ fn blamed<M: Machine, R: Rows>(
     let Some(r) = first_busy(units, rows.instruction(j), c) else {
         return None;
     };
-    let Some(place) = last_holder(machine, last, r as usize, c) else {
+    let chosen = units.last_of(r as usize);
+    let Some(place) = last_holder(machine, last, taken, chosen, r as usize, c) else {
         return None;
     };
     Some(order[place as usize])
