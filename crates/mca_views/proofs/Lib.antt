@@ -14,6 +14,8 @@ pub mod LatestCycles
 pub mod Entries
 pub mod Operands
 pub mod SumRows
+pub mod Tags
+pub mod Places
 pub mod RegionParts
 pub mod Waiting
 pub mod WorkedSequence

@@ -1,5 +1,5 @@
 //! What held a run up: the waits of its rows, the stalls of dispatch, and the critical sequence.
-ghost use Rattle.std.specs.Prelude.{◌≡◌, ◌≤◌, ◌<◌, ℕ, List, [], ◌∷◌, map, length, Option, IfOk, OnOk, IfErr};
+ghost use Rattle.std.specs.Prelude.{◌≡◌, ◌≤◌, ◌<◌, ℕ, List, [], ◌∷◌, ◌+◌, ◌++◌, map, drop, length, Option, IfOk, OnOk, IfErr};
 ghost use Rattle.critical_chain.specs.declared.graph.Chain.{Chain as ChainOf};
 ghost use Rattle.cycle_rules.specs.Bind.{IsBoundBody};
 ghost use Rattle.cycle_rules.specs.Run.{IsRunOf};
@@ -12,14 +12,14 @@ ghost use Rattle.mca_views.specs.Page.{added};
 ghost use Rattle.mca_views.specs.Shown.{Shown as ShownOf, shown, run_of, IsShown};
 ghost use Rattle.mca_views.specs.WorkedBottleneck.{two_products, first_sum, two_products_text};
 
-use crate::cells::{counted, digits};
+use crate::cells::counted;
 use crate::fault::ViewFault;
 use crate::page::Page;
-use crate::timelines::tag;
 use crate::view::View;
 use crate::waited::wait_sums;
 use critical_chain::{Chain, Edge, EdgeKind, critical};
 use dep_graph::{edges, stalls};
+use itoa::write_digits;
 use machine_model::Machine;
 use mca_fixed::NoMemory;
 use mca_words::Options;
@@ -218,17 +218,12 @@ fn put_sequence<M: Machine>(
 {
     let cost = counted(alloc, "Critical sequence:", chain.cost)?;
     page.put_lines(&[cost.as_slice()])?;
-    put_links(alloc, page, v, chain.links.as_slice())?;
+    put_links(page, v, chain.links.as_slice())?;
     Ok(())
 }
 
 /// The links of a chain.
-fn put_links<M: Machine>(
-    alloc: Global,
-    page: &mut Page,
-    v: &View<M>,
-    links: &[Edge],
-) -> Result<(), ViewFault>
+fn put_links<M: Machine>(page: &mut Page, v: &View<M>, links: &[Edge]) -> Result<(), ViewFault>
     requires closed { page.old.open_line ≡ [] }
     requires some { 0 < length v.now.body.now }
     ensures ok { OnOk result (page.new ≡ added page.old
@@ -236,40 +231,67 @@ fn put_links<M: Machine>(
     ensures long { IfErr result (Over page.old.room (length (added page.old
         (lines (map (link_line (shown M.meaning v.now)) links.now))).text)) }
 {
+    let mut buf = [0; MOST_LINK];
     for e in links {
-        let line = link_line(alloc, v, *e)?;
-        page.put_line(&line)?;
+        let start = write_link(v, *e, &mut buf);
+        page.put_line(&buf[start..])?;
     }
     Ok(())
 }
 
-/// The line of a link.
-fn link_line<M: Machine>(alloc: Global, v: &View<M>, e: Edge) -> Result<Vec<u8>, NoMemory>
+/// The most bytes of the line of a link: two tags, each with two numbers below 2^32, four bytes
+/// between them, the longest word with a space on each side, and a number below 2^64.
+const MOST_LINK: usize = 80;
+
+/// Writes the line of a link at the end of a buffer, and answers where it starts.
+fn write_link<M: Machine>(v: &View<M>, e: Edge, buf: &mut [u8; MOST_LINK]) -> usize
     requires some { 0 < length v.now.body.now }
-    ensures { IfOk result (λ line. line.items ≡ link_line (shown M.meaning v.now) e) }
+    ensures within { result ≤ 80 }
+    ensures written { drop result buf.new ≡ link_line (shown M.meaning v.now) e }
 {
-    let mut line = row_tag(alloc, v, e.from)?;
-    line.extend_from_slice(b" -> ")?;
-    line.extend_from_slice(&row_tag(alloc, v, e.to)?)?;
-    line.extend_from_slice(b" ")?;
-    line.extend_from_slice(kind_word(e.kind))?;
-    line.extend_from_slice(b" ")?;
-    line.extend_from_slice(&digits(alloc, e.cost)?)?;
-    Ok(line)
+    let start = write_digits(e.cost, buf, MOST_LINK);
+    let start = write_before(b" ", buf, start);
+    let start = write_before(kind_word(e.kind), buf, start);
+    let start = write_before(b" ", buf, start);
+    let start = write_tag(v, e.to, buf, start);
+    let start = write_before(b" -> ", buf, start);
+    write_tag(v, e.from, buf, start)
 }
 
-/// The tag of a row.
-fn row_tag<M: Machine>(alloc: Global, v: &View<M>, j: u32) -> Result<Vec<u8>, NoMemory>
+/// Writes the tag of a row so that it ends where `end` says, and answers where it starts.
+fn write_tag<M: Machine>(v: &View<M>, j: u32, buf: &mut [u8], end: usize) -> usize
     requires some { 0 < length v.now.body.now }
-    ensures { IfOk result (λ tag. tag.items ≡ row_tag (shown M.meaning v.now) j) }
+    requires low { 23 ≤ end }
+    requires high { end ≤ length buf.old }
+    ensures start { result + length (row_tag (shown M.meaning v.now) j) ≡ end }
+    ensures short { end ≤ result + 23 }
+    ensures written { drop result buf.new
+        ≡ row_tag (shown M.meaning v.now) j ++ drop end buf.old }
 {
     let j = j as usize;
-    tag(alloc, j / v.body.len(), j % v.body.len())
+    let start = write_before(b"]", buf, end);
+    let start = write_digits((j % v.body.len()) as u64, buf, start);
+    let start = write_before(b",", buf, start);
+    let start = write_digits((j / v.body.len()) as u64, buf, start);
+    write_before(b"[", buf, start)
+}
+
+/// Writes bytes so that they end where `end` says, and answers where they start.
+fn write_before(bytes: &[u8], buf: &mut [u8], end: usize) -> usize
+    requires low { length bytes.now ≤ end }
+    requires high { end ≤ length buf.old }
+    ensures start { result + length bytes.now ≡ end }
+    ensures written { drop result buf.new ≡ bytes.now ++ drop end buf.old }
+{
+    let start = end - bytes.len();
+    buf[start..end].copy_from_slice(bytes);
+    start
 }
 
 /// What was waited for.
 fn kind_word(kind: EdgeKind) -> &'static [u8]
-    ensures { result.now ≡ kind_word kind }
+    ensures is { result.now ≡ kind_word kind }
+    ensures short { length result.now ≤ 8 }
 {
     match kind {
         EdgeKind::Register => b"register",

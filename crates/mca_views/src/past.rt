@@ -104,7 +104,7 @@ impl Past {
         let b = &v.body[place];
         let row = &v.run.rows.as_slice()[j];
         let earliest = earliest(b.reserved, row.dispatch);
-        let reads = self.reads_time(v, j, b);
+        let reads = self.reads_time(v, j, place, b);
         let order = self
             .latest(b.reserved)
             .lets_go(b.kind, v.machine.limits().no_alias);
@@ -130,9 +130,10 @@ impl Past {
     }
 
     /// The first cycle in which all reads of an instruction have their values.
-    fn reads_time<M: Machine>(&self, v: &View<M>, j: usize, b: &Bound) -> u64
+    fn reads_time<M: Machine>(&self, v: &View<M>, j: usize, place: usize, b: &Bound) -> u64
         requires shown { IsShown (shown M.meaning v.now) }
         requires row { j < length v.now.run.now.rows }
+        requires place { place ≡ j % length v.now.body.now }
         requires past { IsPast (run_of (shown M.meaning v.now)) (times v.now.run.now.rows)
             j self.now }
         requires entry { IsEntry (M.meaning v.now.machine.now) b.now }
@@ -143,15 +144,23 @@ impl Past {
         let reads = &b.reads[..b.read_count as usize];
         let mut most = 0;
         for k in 0..reads.len() {
-            most = most.max(self.read_time(v, j, b.reserved, reads[k]));
+            most = most.max(self.read_time(v, j, place, b.reserved, reads[k]));
         }
         most
     }
 
     /// The first cycle in which a read has its value; 0 where no row makes it.
-    fn read_time<M: Machine>(&self, v: &View<M>, j: usize, reserved: bool, read: Source) -> u64
+    fn read_time<M: Machine>(
+        &self,
+        v: &View<M>,
+        j: usize,
+        place: usize,
+        reserved: bool,
+        read: Source,
+    ) -> u64
         requires shown { IsShown (shown M.meaning v.now) }
         requires row { j < length v.now.run.now.rows }
+        requires place { place ≡ j % length v.now.body.now }
         requires past { IsPast (run_of (shown M.meaning v.now)) (times v.now.run.now.rows)
             j self.now }
         requires class { has_class (M.meaning v.now.machine.now) read ≡ true }
@@ -165,22 +174,56 @@ impl Past {
         }
         match self.writers[reg] {
             None => 0,
-            Some(k) => value_time(v, k, reserved, read.read),
+            Some(k) => value_time(
+                v,
+                k,
+                place_of(k, j, place, v.body.len()),
+                reserved,
+                read.read,
+            ),
         }
     }
 }
 
-/// The first cycle in which the value of row k can be read.
-fn value_time<M: Machine>(v: &View<M>, k: usize, reserved: bool, read: u16) -> u64
+/// The place of row k in a body of so many instructions, as that of row j is known. Where row k
+/// stands in the same iteration or in the one before, that takes no division.
+fn place_of(k: usize, j: usize, place: usize, size: usize) -> usize
+    requires some { 0 < size }
+    requires place { place ≡ j % size }
+    ensures { result ≡ k % size }
+{
+    if k <= j {
+        let back = j - k;
+        if back <= place {
+            return place - back;
+        }
+        if back - place <= size {
+            return size - (back - place);
+        }
+    }
+    k % size
+}
+
+/// The place of the row after one that stands at a place, in a body of so many instructions.
+pub(crate) fn place_after(place: usize, size: usize) -> usize
+    requires { place < size }
+    ensures { (j : ℕ) → place ≡ j % size → result ≡ (j + 1) % size }
+{
+    if place + 1 == size { 0 } else { place + 1 }
+}
+
+/// The first cycle in which the value of row k, at a place of the body, can be read.
+fn value_time<M: Machine>(v: &View<M>, k: usize, place: usize, reserved: bool, read: u16) -> u64
     requires shown { IsShown (shown M.meaning v.now) }
     requires row { k < length v.now.run.now.rows }
+    requires place { place ≡ k % length v.now.body.now }
     requires class { (nat_eq read no_class || nat_lt read (M.meaning v.now.machine.now).read_count)
         ≡ true }
     ensures { result ≡ value_time (run_of (shown M.meaning v.now)) (times v.now.run.now.rows)
         (seen_from (run_of (shown M.meaning v.now)) (times v.now.run.now.rows) reserved)
         read (Some k) }
 {
-    let from = &v.body[k % v.body.len()];
+    let from = &v.body[place];
     let row = &v.run.rows.as_slice()[k];
     let seen = seen_from(from.reserved, reserved, row.issue);
     let lead = lead_of(v.machine, from.latency, read, from.write);

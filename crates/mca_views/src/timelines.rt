@@ -250,7 +250,7 @@ fn put_row<M: Machine>(
 }
 
 /// The iteration and the place of a row, each counted from 0.
-pub(crate) fn tag(alloc: Global, iteration: usize, place: usize) -> Result<Vec<u8>, NoMemory>
+fn tag(alloc: Global, iteration: usize, place: usize) -> Result<Vec<u8>, NoMemory>
     ensures { IfOk result (λ text. text.items ≡ tag iteration place) }
 {
     let mut text = Vec::from_slice(alloc, b"[")?;

@@ -5,7 +5,7 @@ ghost use Rattle.mca_views.specs.Past.{IsPast};
 ghost use Rattle.mca_views.specs.Shown.{shown, run_of, IsShown};
 ghost use Rattle.mca_views.specs.Waited.{AreWaited, AreWaitsOf, AreBelow};
 
-use crate::past::Past;
+use crate::past::{Past, place_after};
 use crate::view::View;
 use machine_model::Machine;
 use mca_fixed::NoMemory;
@@ -33,33 +33,43 @@ pub(crate) fn wait_sums<M: Machine>(alloc: Global, v: &View<M>) -> Result<WaitSu
         memory: 0,
         resources: 0,
     };
+    let mut place = 0;
     for j in 0..v.run.rows.len() {
-        sums = with_row(sums, v, &past, j);
-        past.pass(v, j, j % v.body.len());
+        sums = with_row(sums, v, &past, j, place);
+        past.pass(v, j, place);
+        place = place_after(place, v.body.len());
     }
     Ok(sums)
 }
 
-/// Sums with the waits of row j.
-fn with_row<M: Machine>(sums: WaitSums, v: &View<M>, past: &Past, j: usize) -> WaitSums
+/// Sums with the waits of row j, at a place of the body.
+fn with_row<M: Machine>(
+    sums: WaitSums,
+    v: &View<M>,
+    past: &Past,
+    j: usize,
+    place: usize,
+) -> WaitSums
     requires shown { IsShown (shown M.meaning v.now) }
     requires row { j < length v.now.run.now.rows }
+    requires place { place ≡ j % length v.now.body.now }
     requires past { IsPast (run_of (shown M.meaning v.now)) (times v.now.run.now.rows) j past.now }
     requires sums { AreWaited (shown M.meaning v.now) j sums }
     ensures { AreWaited (shown M.meaning v.now) (j + 1) result }
 {
-    plus(sums, waits_of(v, past, j))
+    plus(sums, waits_of(v, past, j, place))
 }
 
-/// The waits of row j.
-fn waits_of<M: Machine>(v: &View<M>, past: &Past, j: usize) -> WaitSums
+/// The waits of row j, at a place of the body.
+fn waits_of<M: Machine>(v: &View<M>, past: &Past, j: usize, place: usize) -> WaitSums
     requires shown { IsShown (shown M.meaning v.now) }
     requires row { j < length v.now.run.now.rows }
+    requires place { place ≡ j % length v.now.body.now }
     requires past { IsPast (run_of (shown M.meaning v.now)) (times v.now.run.now.rows) j past.now }
     ensures are { AreWaitsOf (shown M.meaning v.now) j result }
     ensures low { AreBelow (2 ^ 42) result }
 {
-    let ready = past.ready(v, j, j % v.body.len());
+    let ready = past.ready(v, j, place);
     let issue = v.run.rows.as_slice()[j].issue;
     WaitSums {
         registers: ready.operands - ready.earliest,

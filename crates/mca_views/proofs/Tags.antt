@@ -1,0 +1,21 @@
+-- How long the numbers of a tag are, and the pieces of a link's line.
+use Rattle.std.proofs.Common.{◌≡◌, ℕ, ◌/◌, ◌%◌, ◌^◌, ◌<◌, ◌≤◌, List, ◌++◌, length, ◌∙◌, arith}
+use Rattle.std.specs.Fmt.{decimal}
+use Rattle.std.proofs.lemmas.Fmt.{length-decimal-le}
+use Rattle.std.proofs.lemmas.List.{append_assoc}
+use Rattle.std.proofs.Math.Nat.{mod-le, div-le_self}
+
+pub short_place : (j n : ℕ) → j < 2 ^ 32 → length (decimal (j % n)) ≤ 10
+short_place j n fits = let le = mod-le j n in length-decimal-le 10 (j % n) (omega arith) (omega (arith, fits, le)) (omega (arith, fits, le))
+
+pub short_iteration : (j n : ℕ) → j < 2 ^ 32 → length (decimal (j / n)) ≤ 10
+short_iteration j n fits = let le = div-le_self j n in length-decimal-le 10 (j / n) (omega arith) (omega (arith, fits, le)) (omega (arith, fits, le))
+
+-- seven pieces, one behind another
+pub pieces : (a b c d e f h : List ℕ) → a ++ b ++ c ++ d ++ e ++ f ++ h ≡ a ++ (b ++ (c ++ (d ++ (e ++ (f ++ h)))))
+pieces a b c d e f h =
+    append_assoc (a ++ b ++ c ++ d ++ e) f h
+    ∙ append_assoc (a ++ b ++ c ++ d) e (f ++ h)
+    ∙ append_assoc (a ++ b ++ c) d (e ++ (f ++ h))
+    ∙ append_assoc (a ++ b) c (d ++ (e ++ (f ++ h)))
+    ∙ append_assoc a b (c ++ (d ++ (e ++ (f ++ h))))
