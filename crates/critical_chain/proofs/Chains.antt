@@ -58,14 +58,6 @@ built_leads edges spot label v (e ∷ es) built =
     let turned : reverse es ++ e ∷ [] ≡ reverse (e ∷ es) = sym (reverse-append (e ∷ []) es) in
     (r.0, subst (λ xs. Leads edges r.0 v xs) turned leads, subst (λ xs. cost_of xs ≡ label v) turned costs)
 
--- the places of rows may be told in another way
-pub built_told : (edges : List Edge) (spot other label : ℕ → ℕ) → ((e : Edge) → HasEdge edges e → spot e.from ≡ other e.from) → (v : ℕ) (links : List Edge) → IsBuilt edges spot label v links → IsBuilt edges other label v links
-built_told edges spot other label same v [] built = built
-built_told edges spot other label same v (e ∷ es) built =
-    let first : (y : Edge) → HasEdge edges y → ends_costliest label v y ≡ true → goes_first other y e ≡ false
-    = λ y has last. rw (← same y has, ← same e built.1.edge) (built.1.first y has last) in
-    (built.0, record { edge = built.1.edge; last = built.1.last; first = first }, built_told edges spot other label same e.from es built.2)
-
 -- a chain that passes its check costs at least as much as any
 pub shown : (n : ℕ) (edges links : List Edge) (cost : ℕ) (labels : List ℕ) → IsShown n edges links cost labels → (a b : ℕ) (others : List Edge) → Leads edges a b others → cost_of others ≤ cost
 shown n edges links cost labels is a b others leads =
@@ -92,12 +84,10 @@ pub shows : (order : List ℕ) (n : ℕ) (edges links : List Edge) (v : ℕ) (la
 shows order n edges links v labels rows grows end chain sum = record { chain = chain; sum = sum; rows = rows; grows = grows; most = end.most }
 
 -- what the parts of the search give
-pub reported : (n : ℕ) (order : List ℕ) (spots : List ℕ) (edges back links : List Edge) (v : ℕ) (labels : List ℕ) → links ≡ reverse back → AreForward n (place order) edges → AreLabels n edges labels
-    → Grows edges (slice_index labels)
-    → ((u : ℕ) → u < n → slice_index spots u ≡ place order u)
-    → IsEnd n (place order) (slice_index labels) v → IsBuilt edges (slice_index spots) (slice_index labels) v back → IsReported n order edges links (slice_index labels v) labels
-reported n order spots edges back links v labels turned forward are grows places end built =
-    let r = built_leads edges (slice_index spots) (slice_index labels) v back built in
+pub reported : (n : ℕ) (order : List ℕ) (edges back links : List Edge) (v : ℕ) (labels : List ℕ) → links ≡ reverse back → AreForward n (place order) edges → AreLabels n edges labels → Grows edges (slice_index labels)
+    → IsEnd n (place order) (slice_index labels) v → IsBuilt edges (place order) (slice_index labels) v back → IsReported n order edges links (slice_index labels v) labels
+reported n order edges back links v labels turned forward are grows end built =
+    let r = built_leads edges (place order) (slice_index labels) v back built in
     let sum : cost_of links ≡ slice_index labels v = subst (λ xs. cost_of xs ≡ slice_index labels v) (sym turned) r.2 in
     let leads : Leads edges r.0 v links = subst (λ xs. Leads edges r.0 v xs) (sym turned) r.1 in
     record {
@@ -105,7 +95,7 @@ reported n order spots edges back links v labels turned forward are grows places
       sum = sym sum;
       chain = (r.0, v, leads);
       most = shown n edges links (slice_index labels v) labels (shows order n edges links v labels are.rows grows end (r.0, v, leads) (sym sum));
-      built = λ _. (v, end, built_told edges (slice_index spots) (place order) (slice_index labels) (λ e has. places e.from (subst (λ x. x.from < n) has.2 (forward.forward has.0 has.1).from)) v (reverse links) (subst (λ xs. IsBuilt edges (slice_index spots) (slice_index labels) v xs) (sym (reverse-reverse back) ∙ ap reverse (sym turned)) built));
+      built = λ _. (v, end, subst (IsBuilt edges (place order) (slice_index labels) v) (sym (reverse-reverse back) ∙ ap reverse (sym turned)) built);
       none = λ no_rows. absurd (omega (arith, no_rows, end.row));
     }
 
@@ -124,11 +114,20 @@ last_of edges label last v above =
     let sum : nat_eq (label (edge_at edges l.0).from + (edge_at edges l.0).cost) (label v) ≡ true = grind (arith, nat_tests, l.3) in
     (l.0, l.1, (rw (to, sum) refl))
 
-pub from_of : (n : ℕ) (order spots : List ℕ) (edges : List Edge) → AreForward n (place order) edges → ((u : ℕ) → u < n → slice_index spots u ≡ place order u)
-    → (i : ℕ) → i < length edges → ((edge_at edges i).from < n) × (slice_index spots (edge_at edges i).from < slice_index spots (edge_at edges i).to)
-from_of n order spots edges forward places i lt =
-    let e = forward.forward i lt in
-    (e.from, omega (arith, places (edge_at edges i).from e.from, places (edge_at edges i).to e.to, e.later))
+pub reported_at : (n : ℕ) (order : List ℕ) (edges back links : List Edge) (v cost : ℕ) (labels others : List ℕ) → links ≡ reverse back → cost ≡ slice_index labels v → others ≡ labels
+    → AreForward n (place order) edges → AreLabels n edges labels → Grows edges (slice_index labels)
+    → IsEnd n (place order) (slice_index labels) v → IsBuilt edges (place order) (slice_index labels) v back → IsReported n order edges links cost others
+reported_at n order edges back links v cost labels others turned paid same forward are grows end built =
+    let r : IsReported n order edges links (slice_index labels v) labels = reported n order edges back links v labels turned forward are grows end built in
+    subst (IsReported n order edges links cost) (sym same) (subst (λ x. IsReported n order edges links x labels) (sym paid) r)
+
+-- the places of rows may be told in another way
+built_told : (edges : List Edge) (spot other label : ℕ → ℕ) → ((e : Edge) → HasEdge edges e → spot e.from ≡ other e.from) → (v : ℕ) (links : List Edge) → IsBuilt edges spot label v links → IsBuilt edges other label v links
+built_told edges spot other label same v [] built = built
+built_told edges spot other label same v (e ∷ es) built =
+    let first : (y : Edge) → HasEdge edges y → ends_costliest label v y ≡ true → goes_first other y e ≡ false
+    = λ y has last. rw (← same y has, ← same e built.1.edge) (built.1.first y has last) in
+    (built.0, record { edge = built.1.edge; last = built.1.last; first = first }, built_told edges spot other label same e.from es built.2)
 
 pub reported_as : (n : ℕ) (order spots : List ℕ) (edges back links : List Edge) (v cost : ℕ) (labels others : List ℕ) → links ≡ reverse back → cost ≡ slice_index labels v → others ≡ labels
     → AreForward n (place order) edges → AreLabels n edges labels
@@ -136,8 +135,8 @@ pub reported_as : (n : ℕ) (order spots : List ℕ) (edges back links : List Ed
     → ((u : ℕ) → u < n → slice_index spots u ≡ place order u)
     → IsEnd n (place order) (slice_index labels) v → IsBuilt edges (slice_index spots) (slice_index labels) v back → IsReported n order edges links cost others
 reported_as n order spots edges back links v cost labels others turned paid same forward are grows places end built =
-    let r : IsReported n order edges links (slice_index labels v) labels = reported n order spots edges back links v labels turned forward are grows places end built in
-    subst (IsReported n order edges links cost) (sym same) (subst (λ x. IsReported n order edges links x labels) (sym paid) r)
+    let start : (e : Edge) → HasEdge edges e → slice_index spots e.from ≡ place order e.from = λ e has. places e.from (subst (λ x. x.from < n) has.2 (forward.forward has.0 has.1).from) in
+    reported_at n order edges back links v cost labels others turned paid same forward are grows end (built_told edges (slice_index spots) (place order) (slice_index labels) start v back built)
 
 -- what is reported, with labels that grow, passes its check
 pub reported_shown : (n : ℕ) (order : List ℕ) (edges links : List Edge) (v cost : ℕ) (labels others : List ℕ) → others ≡ labels → cost ≡ slice_index labels v

@@ -1,17 +1,15 @@
 -- Each graph has a critical sequence: labels along the edges, the first of the greatest, and links back from it.
-use Rattle.std.proofs.Common.{zero, suc, ◌≡◌, ℕ, ◌+◌, ◌<◌, ◌≤◌, inl, inr, List, [], ◌∷◌, length, set, arith, refl, sym, ap, subst, true, false}
-use Rattle.std.specs.Prelude.{slice_index, replicate, max, reverse, Option, Some, None, nat_eq}
-use Rattle.std.proofs.lemmas.Bool.{cases_lt, cases_Bool, and_parts}
-use Rattle.std.proofs.lemmas.Bool.Decides.{nat_tests}
-use Rattle.std.proofs.lemmas.List.{reverse-reverse}
+use Rattle.std.proofs.Common.{zero, suc, ◌≡◌, ℕ, ◌+◌, ◌<◌, ◌≤◌, inl, inr, List, [], ◌∷◌, length, set, arith, refl, ap, subst, true, false}
+use Rattle.std.specs.Prelude.{slice_index, replicate, max, reverse, Option, Some, None}
+use Rattle.std.proofs.lemmas.Bool.{cases_lt, cases_Bool}
 use Rattle.critical_chain.specs.declared.graph.Edge.{Edge}
 use Rattle.critical_chain.specs.declared.graph.Graph.{Graph}
 use Rattle.critical_chain.specs.declared.graph.Chain.{Chain}
 use Rattle.critical_chain.specs.Graph.{place, edge_at, IsOrder, AreForward, IsGraph}
-use Rattle.critical_chain.specs.Chain.{ends_costliest, goes_first, Grows, HasEdge, IsChoice, IsBuilt, IsEnd, AreLabels, IsReported, IsCritical}
+use Rattle.critical_chain.specs.Chain.{ends_costliest, goes_first, Grows, HasEdge, IsChoice, IsBuilt, IsEnd, AreLabels, IsCritical}
 use Rattle.critical_chain.specs.Search.{AreReached, AreEnded, IsBest}
-use Rattle.critical_chain.proofs.Chains.{labels_are, last_of, built_leads, shows, shown, reported_none}
-use Rattle.critical_chain.proofs.Choices.{best_skip, best_stay, best_new}
+use Rattle.critical_chain.proofs.Chains.{labels_are, last_of, reported, reported_none}
+use Rattle.critical_chain.proofs.Choices.{best_skip, best_stay, best_new, ends_there, choice_of}
 use Rattle.critical_chain.proofs.Labels.{AreLabelled, labelled_start, labelled_max}
 use Rattle.critical_chain.proofs.Orders.{place_at}
 
@@ -27,42 +25,30 @@ labelled spot edges n h (suc m) le =
     let more : AreLabelled edges (m + 1) n new = labelled_max spot edges m n r.0 old x h r.1 (omega (arith, le)) refl refl in
     (new, subst (λ k. AreLabelled edges k n new) e more)
 
--- of the first m edges the one to take at row v, if any
-best : (edges : List Edge) (spot label : ℕ → ℕ) (v m : ℕ) → (o : Option Edge) × IsBest edges m spot label v o
-best edges spot label v zero = (None, λ i lt. absurd (omega (arith, lt)))
-best edges spot label v (suc m) =
-    let r = best edges spot label v m in
-    let e : m + 1 ≡ suc m = omega arith in
-    let more : (o : Option Edge) × IsBest edges (m + 1) spot label v o = elim (cases_Bool (ends_costliest label v (edge_at edges m))) [
-      | inr gone ↦ (r.0, best_skip edges m spot label v r.0 r.1 gone)
-      | inl is ↦ next r.0 r.1 is
-    ] in
-    (more.0, subst (λ k. IsBest edges k spot label v more.0) e more.1)
+-- of the last m edges the one to take at row v, if any
+best : (edges : List Edge) (spot label : ℕ → ℕ) (v m n : ℕ) → n + m ≡ length edges → (o : Option ℕ) × IsBest edges n spot label v o
+best edges spot label v zero n all = (None, λ i past lt. absurd (omega (arith, past, lt, all)))
+best edges spot label v (suc m) n all =
+    let r = best edges spot label v m (n + 1) (omega (arith, all)) in
+    elim (cases_Bool (ends_costliest label v (edge_at edges n))) [
+      | inr gone ↦ (r.0, best_skip edges n spot label v r.0 r.1 gone)
+      | inl is ↦ next (omega (arith, all)) r.0 r.1 is
+    ]
   where
-    next : (o : Option Edge) → IsBest edges m spot label v o → ends_costliest label v (edge_at edges m) ≡ true → (o : Option Edge) × IsBest edges (m + 1) spot label v o
-    next None h is = (Some (edge_at edges m), best_new edges m spot label v None h is (λ x same. absurd (cc)))
-    next (Some x) h is = elim (cases_Bool (goes_first spot (edge_at edges m) x)) [
-      | inr later ↦ (Some x, best_stay edges m spot label v x h later)
-      | inl first ↦ (Some (edge_at edges m), best_new edges m spot label v (Some x) h is (λ y same. let e : x ≡ y = cc in subst (λ z. goes_first spot (edge_at edges m) z ≡ true) e first))
+    next : n < length edges → (o : Option ℕ) → IsBest edges (n + 1) spot label v o → ends_costliest label v (edge_at edges n) ≡ true → (o : Option ℕ) × IsBest edges n spot label v o
+    next lt None h is = (Some n, best_new edges n spot label v None lt h is (λ k same. absurd (cc)))
+    next lt (Some x) h is = elim (cases_Bool (goes_first spot (edge_at edges n) (edge_at edges x))) [
+      | inr later ↦ (Some x, best_stay edges n spot label v x h later)
+      | inl first ↦ (Some n, best_new edges n spot label v (Some x) lt h is (λ k same. let e : x ≡ k = cc in subst (λ z. goes_first spot (edge_at edges n) (edge_at edges z) ≡ true) e first))
     ]
 
 -- at a row with a label above 0 an edge is taken
 chosen : (edges : List Edge) (spot label : ℕ → ℕ) (v : ℕ) → AreEnded edges label → 0 < label v → (e : Edge) × IsChoice edges spot label v e
-chosen edges spot label v ended above = let b = best edges spot label v (length edges) in go b.0 b.1
+chosen edges spot label v ended above = let b = best edges spot label v (length edges) 0 (omega arith) in go b.0 b.1
   where
-    go : (o : Option Edge) → IsBest edges (length edges) spot label v o → (e : Edge) × IsChoice edges spot label v e
-    go None h = let l = ended v above in absurd (let no : ends_costliest label v (edge_at edges l.0) ≡ false = h l.0 l.1 in grind (arith, no, l.2))
-    go (Some e) h = (
-      e,
-      record {
-        edge = (h.0, h.1, h.2);
-        last = h.3;
-        first = λ y has last. subst (λ z. goes_first spot z e ≡ false) has.2 (h.4 has.0 has.1 (subst (λ z. ends_costliest label v z ≡ true) (sym has.2) last));
-      },
-    )
-
-ends_there : (label : ℕ → ℕ) (v : ℕ) (e : Edge) → ends_costliest label v e ≡ true → e.to ≡ v
-ends_there label v e last = let parts : (nat_eq e.to v ≡ true) × (nat_eq (label e.from + e.cost) (label v) ≡ true) = and_parts _ _ last in grind (arith, nat_tests, parts.0)
+    go : (o : Option ℕ) → IsBest edges 0 spot label v o → (e : Edge) × IsChoice edges spot label v e
+    go None h = let l = ended v above in absurd (let no : ends_costliest label v (edge_at edges l.0) ≡ false = h l.0 (omega arith) l.1 in grind (arith, no, l.2))
+    go (Some k) h = (edge_at edges k, choice_of edges spot label v k h)
 
 -- each choice leads to an earlier row, so the links come to an end
 links_back : (edges : List Edge) (n : ℕ) (spot label : ℕ → ℕ) → AreForward n spot edges → AreEnded edges label → (m v : ℕ) → spot v < m → (links : List Edge) × IsBuilt edges spot label v links
@@ -142,19 +128,6 @@ end_exists (suc m) order label is some =
       },
     )
 
-reported_links : (n : ℕ) (order : List ℕ) (edges back : List Edge) (v : ℕ) (labels : List ℕ) → AreForward n (place order) edges → AreLabels n edges labels → Grows edges (slice_index labels)
-    → IsEnd n (place order) (slice_index labels) v → IsBuilt edges (place order) (slice_index labels) v back → IsReported n order edges (reverse back) (slice_index labels v) labels
-reported_links n order edges back v labels forward are grows end built =
-    let r = built_leads edges (place order) (slice_index labels) v back built in
-    record {
-      are_labels = are;
-      sum = sym r.2;
-      chain = (r.0, v, r.1);
-      most = shown n edges (reverse back) (slice_index labels v) labels (shows order n edges (reverse back) v labels are.rows grows end (r.0, v, r.1) (sym r.2));
-      built = λ _. (v, end, subst (IsBuilt edges (place order) (slice_index labels) v) (sym (reverse-reverse back)) built);
-      none = λ no_rows. absurd (omega (arith, no_rows, end.row));
-    }
-
 pub chain_exists : (g : Graph) → IsGraph g → (c : Chain) × IsCritical g c
 chain_exists g is =
     let n : ℕ = g.rows in
@@ -169,5 +142,5 @@ chain_exists g is =
       | inl some ↦
           (let end = end_exists n g.order label is.order some in
           let back = links_back g.edges n (place g.order) label is.edges (last_of g.edges label reached) (suc (place g.order end.0)) end.0 (omega arith) in
-          (record { links = reverse back.0; cost = label end.0; labels = labels }, reported_links n g.order g.edges back.0 end.0 labels is.edges are grows end.1 back.1))
+          (record { links = reverse back.0; cost = label end.0; labels = labels }, reported n g.order g.edges back.0 (reverse back.0) end.0 labels refl is.edges are grows end.1 back.1))
     ]

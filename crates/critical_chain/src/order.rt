@@ -1,21 +1,38 @@
-//! Where each row stands in issue order.
-ghost use Rattle.std.specs.Prelude.{◌≡◌, ◌<◌, ◌^◌, ℕ, length, IfOk};
-ghost use Rattle.critical_chain.specs.Graph.{IsOrder};
-ghost use Rattle.critical_chain.specs.Search.{AreSpots};
+//! Where rows stand in issue order, found by going back in it from a place above them.
+ghost use Rattle.std.specs.Prelude.{◌≡◌, ◌<◌, ◌≤◌, length, nat_lt};
+ghost use Rattle.critical_chain.specs.Graph.{place, IsOrder};
 
-use mca_fixed::NoMemory;
-use std::alloc::Global;
-
-/// For each row its place in an order.
-pub fn places(alloc: Global, order: &[u32]) -> Result<Vec<u32>, NoMemory>
+/// The place in an order of a row that stands below place `high`.
+pub fn place_below(order: &[u32], high: usize, v: u32) -> usize
     requires order { IsOrder (length order.now) order.now }
-    requires few { length order.now < 2 ^ 32 }
-    ensures len { IfOk result (λ spots. length spots.items ≡ length order.now) }
-    ensures spots { IfOk result (λ spots. AreSpots order.now spots.items) }
+    requires high { high ≤ length order.now }
+    requires below { place order.now v < high }
+    ensures { result ≡ place order.now v }
 {
-    let mut spots = vec![in alloc; 0_u32; order.len()]?;
-    for i in 0..order.len() {
-        spots[order[i] as usize] = i as u32;
+    for i in (0..high).rev() {
+        if order[i] == v {
+            return i;
+        }
     }
-    Ok(spots)
+    0
+}
+
+/// Whether of two rows that stand in an order below place `high` the first stands before the
+/// second. It takes as many steps as the later of them stands below that place.
+pub fn is_earlier(order: &[u32], high: usize, a: u32, b: u32) -> bool
+    requires order { IsOrder (length order.now) order.now }
+    requires high { high ≤ length order.now }
+    requires a { place order.now a < high }
+    requires b { place order.now b < high }
+    ensures { result ≡ nat_lt (place order.now a) (place order.now b) }
+{
+    for i in (0..high).rev() {
+        if order[i] == a {
+            return false;
+        }
+        if order[i] == b {
+            return true;
+        }
+    }
+    false
 }

@@ -2,58 +2,44 @@
 ghost use Rattle.std.specs.Prelude.{◌≡◌, ◌<◌, ◌^◌, ℕ, length, slice_index, reverse, IfOk};
 ghost use Rattle.critical_chain.specs.Graph.{place, IsOrder, AreForward, IsGraph, cost_of};
 ghost use Rattle.critical_chain.specs.Chain.{IsCritical, IsReported, IsShown, IsChecked, IsEnd, IsBuilt};
-ghost use Rattle.critical_chain.specs.Search.{AreChosen, AreEnded, StartEarlier};
+ghost use Rattle.critical_chain.specs.Search.{AreEnded, AreLow};
 
-use crate::choice::choices;
+use crate::choice::choice_at;
 use crate::graph::{Chain, Edge, Graph};
 use crate::label::labels;
-use crate::order::places;
 use mca_fixed::{Items, NoMemory};
 use std::alloc::Global;
 
-/// The first row in an order that has the greatest label.
-fn end_of(order: &[u32], labels: &[u64]) -> usize
-    requires some { 0 < length order.now }
-    requires order { IsOrder (length order.now) order.now }
-    requires labels { length labels.now ≡ length order.now }
-    ensures { IsEnd (length order.now) (place order.now) (slice_index labels.now) result }
-{
-    let mut end = order[0] as usize;
-    for i in 0..order.len() {
-        let v = order[i] as usize;
-        if labels[end] < labels[v] {
-            end = v;
-        }
-    }
-    end
-}
-
-/// The links of the chain to a row, the last one first.
+/// The links of the chain to a row, the last one first. The rows of a chain rise in issue order, by
+/// which the edges are sorted, so one walk back over the edges finds all. The order is read only
+/// where edges from several rows end a costliest chain at one.
 fn links_to(
     alloc: Global,
+    order: &[u32],
     edges: &[Edge],
-    chosen: &[Option<Edge>],
     labels: &[u64],
-    spots: &[u32],
     end: usize,
 ) -> Result<Vec<Edge>, NoMemory>
-    requires end { end < length labels.now }
-    requires chosen { length chosen.now ≡ length labels.now }
-    requires best { AreChosen edges.now (length edges.now) (slice_index spots.now)
-        (slice_index labels.now) chosen.now }
+    requires order { IsOrder (length order.now) order.now }
+    requires edges { AreForward (length order.now) (place order.now) edges.now }
+    requires low { AreLow edges.now labels.now }
+    requires rows { length labels.now ≡ length order.now }
     requires last { AreEnded edges.now (slice_index labels.now) }
-    requires from { StartEarlier edges.now (length labels.now) (slice_index spots.now) }
-    ensures { IfOk result (λ links. IsBuilt edges.now (slice_index spots.now)
-        (slice_index labels.now) end links.items) }
+    requires end { end < length order.now }
+    ensures { IfOk result (λ links. IsBuilt edges.now (place order.now) (slice_index labels.now)
+        end links.items) }
 {
     let mut links = Vec::new(alloc);
     let mut v = end;
+    let mut n = edges.len();
+    let mut high = order.len();
     while labels[v] > 0 {
-        let Some(e) = chosen[v] else {
+        let Some(i) = choice_at(order, &mut high, edges, labels, v, n) else {
             return Ok(links);
         };
-        links.push(e)?;
-        v = e.from as usize;
+        links.push(edges[i])?;
+        v = edges[i].from as usize;
+        n = i;
     }
     Ok(links)
 }
@@ -77,18 +63,15 @@ fn chain_of(alloc: Global, rows: u32, order: &[u32], edges: &[Edge]) -> Result<C
     ensures shown { IfOk result (λ c.
         IsShown (length order.now) edges.now c.links c.cost c.labels) }
 {
-    let labels = labels(alloc, order.len(), edges)?;
     if order.is_empty() {
         return Ok(Chain {
             links: Items::from_vec(Vec::new(alloc)),
             cost: 0,
-            labels: Items::from_vec(labels),
+            labels: Items::from_vec(Vec::new(alloc)),
         });
     }
-    let spots = places(alloc, order)?;
-    let chosen = choices(alloc, edges, &labels, &spots)?;
-    let end = end_of(order, &labels);
-    let links = links_to(alloc, edges, &chosen, &labels, &spots, end)?;
+    let (labels, end) = labels(alloc, order, edges)?;
+    let links = links_to(alloc, order, edges, &labels, end)?;
     let cost = labels[end];
     Ok(Chain {
         links: Items::from_vec(in_order(links)),
@@ -97,12 +80,13 @@ fn chain_of(alloc: Global, rows: u32, order: &[u32], edges: &[Edge]) -> Result<C
     })
 }
 
-/// The critical sequence of a graph: a chain of its edges, of which none costs more, with the labels of
-/// all rows. It ends at the row that is first in issue order of those with the greatest label. From there
-/// it is built backwards: of the edges that end a costliest chain at a row the one is taken whose start is
-/// first in issue order, and of several from one start a register goes before memory, and memory before a
-/// resource. There is one such chain (`one_critical`), and `check_chain` holds of it. The work is linear in
-/// rows and edges, and so is the memory.
+/// The critical sequence of a graph: a chain of its edges, of which none costs more, with the
+/// labels of all rows. It ends at the row that is first in issue order of those with the greatest
+/// label. From there it is built backwards: of the edges that end a costliest chain at a row the
+/// one is taken whose start is first in issue order, and of several from one start a register goes
+/// before memory, and memory before a resource. There is one such chain (`one_critical`), and
+/// `check_chain` holds of it. The work is linear in rows and edges where few edges lead to one row,
+/// and the memory is linear in rows: a label for each, and the links.
 pub fn critical(alloc: Global, g: &Graph) -> Result<Chain, NoMemory>
     requires graph { IsGraph g.now }
     ensures critical { IfOk result (λ c. IsCritical g.now c) }

@@ -1,0 +1,6 @@
+use Rattle.std.proofs.Common.{◌<◌}
+use Rattle.critical_chain.specs.Graph.{place}
+use Rattle.critical_chain.proofs.order.is_earlier.Given as goal
+
+abbrev pub invariant-loop-i : goal.invariant-loop-i
+invariant-loop-i l = (place l.order l.a < l.i) × (place l.order l.b < l.i)
