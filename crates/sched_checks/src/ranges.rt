@@ -1,9 +1,10 @@
 //! Numbers in and out of their ranges.
 ghost use Rattle.std.specs.Prelude.{◌≡◌, [], ◌||◌, pos, neg_ℤ, nat_lt, length};
 ghost use Rattle.std.specs.List.{list_any};
+ghost use Rattle.std.specs.Option.{option_to_list};
 ghost use Rattle.sched_checks.specs.Checks.{is_outside, bad_units, entry_units, out_of_range};
 
-use sched_resolve::{Advance, Entry, File, Makeup, Model, Resource, Retirement, Write};
+use sched_resolve::{Advance, Entry, File, Makeup, Model, Numbers, Resource, Retirement, Write};
 
 fn is_outside(low: i64, high: i64, number: i64) -> bool
     ensures { result ≡ is_outside low high number }
@@ -15,6 +16,27 @@ fn any_outside(low: i64, high: i64, numbers: &[i64]) -> bool
     ensures { result ≡ list_any (is_outside low high) numbers.now }
 {
     numbers.iter().any(|number| is_outside(low, high, *number))
+}
+
+/// Whether a use may not hold a unit for so long, if it is given for how long.
+fn is_bad_hold(cycles: Option<i64>) -> bool
+    ensures { result ≡ list_any (is_outside (pos 0) (pos 1000000)) (option_to_list cycles) }
+{
+    match cycles {
+        None => false,
+        Some(cycles) => is_outside(0, 1_000_000, cycles),
+    }
+}
+
+fn some_bad_hold(cycles: &Numbers) -> bool
+    ensures { result ≡ list_any (is_outside (pos 0) (pos 1000000)) cycles.now }
+{
+    for place in 0..cycles.len() {
+        if is_bad_hold(cycles.get(place)) {
+            return true;
+        }
+    }
+    false
 }
 
 /// The units that a record adds to the machine's.
@@ -55,7 +77,7 @@ pub fn bad_write(write: &Write) -> bool
 {
     is_outside(0, 1_000_000, write.latency)
         || is_outside(1, 4096, write.micro_ops)
-        || any_outside(0, 1_000_000, write.cycles.as_slice())
+        || some_bad_hold(&write.cycles)
         || 8 < write.uses.len()
 }
 

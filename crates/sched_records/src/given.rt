@@ -10,6 +10,7 @@ use crate::form::value_as;
 use crate::grammar::{name, sign};
 use crate::members::{Given, is_given};
 use crate::refusal::{TableKind, TableRefusal};
+use crate::shared::Shared;
 use crate::tokens::{Token, Tokens};
 use std::alloc::Global;
 
@@ -77,5 +78,8 @@ pub fn given_of(
     let field = field(class, given, tokens)?;
     sign(tokens, b'=')?;
     let value = value_as(alloc, Some(field.form()), tokens)?;
-    Ok(Given { field, value })
+    Ok(Given {
+        field,
+        value: Shared::make(alloc, value)?,
+    })
 }

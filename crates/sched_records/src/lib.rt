@@ -14,6 +14,7 @@ mod field;
 mod limits;
 mod records;
 mod refusal;
+mod shared;
 // bytes, pieces, tokens
 mod piece;
 mod tokens;
@@ -39,4 +40,5 @@ pub use field::{Field, field_of};
 pub use limits::MOST_RECORDS;
 pub use records::{Atom, Member, Record, Records, Value};
 pub use refusal::{TableKind, TableRefusal};
+pub use shared::Shared;
 pub use table::{few_records, members_in_order, one_answer, read_table};

@@ -5,7 +5,8 @@ ghost use Rattle.sched_records.specs.Members.{is_given_by, value_in, resolved, m
 
 use crate::class::Class;
 use crate::field::Field;
-use crate::records::{Member, Value, copy_value};
+use crate::records::{Member, Value};
+use crate::shared::Shared;
 use mca_fixed::{Items, Name, NoMemory};
 use std::alloc::Global;
 
@@ -13,7 +14,7 @@ use std::alloc::Global;
 #[derive(Drop)]
 pub struct Given {
     pub field: Field,
-    pub value: Value,
+    pub value: Shared<Value>,
 }
 
 /// A `let` scope: what it gives, and whether its items stand in braces or it has one item.
@@ -35,7 +36,7 @@ pub fn is_given(field: Field, given: &[Given]) -> bool
     false
 }
 
-fn value_in(field: Field, given: &[Given]) -> Option<&Value>
+fn value_in(field: Field, given: &[Given]) -> Option<&Shared<Value>>
     ensures { option_map (λ v. v.now) result ≡ value_in field given.now }
 {
     for one in given {
@@ -46,7 +47,7 @@ fn value_in(field: Field, given: &[Given]) -> Option<&Value>
     None
 }
 
-fn value_around(field: Field, scopes: &[Scope]) -> Option<&Value>
+fn value_around(field: Field, scopes: &[Scope]) -> Option<&Shared<Value>>
     ensures { option_map (λ v. v.now) result ≡ resolved field (map (λ s. s.given) scopes.now) }
 {
     for scope in scopes {
@@ -58,7 +59,7 @@ fn value_around(field: Field, scopes: &[Scope]) -> Option<&Value>
     None
 }
 
-fn resolved<'v>(field: Field, body: &'v [Given], scopes: &'v [Scope]) -> Option<&'v Value>
+fn resolved<'v>(field: Field, body: &'v [Given], scopes: &'v [Scope]) -> Option<&'v Shared<Value>>
     ensures { option_map (λ v. v.now) result ≡ resolved field (body.now ∷ map (λ s. s.given) scopes.now) }
 {
     let found = value_in(field, body);
@@ -80,7 +81,7 @@ fn member_of(
         None => Ok(None),
         Some(value) => Ok(Some(Member {
             name: Name::from_bytes(alloc, field.name().as_bytes())?,
-            value: copy_value(alloc, value)?,
+            value: value.again()?,
         })),
     }
 }

@@ -2,6 +2,7 @@
 ghost use Rattle.std.specs.Prelude.{◌≡◌};
 ghost use Rattle.sched_resolve.specs.EntryTests as spec;
 
+use crate::numbers::Numbers;
 use mca_fixed::{Items, Text};
 use rv_isa::Op;
 
@@ -70,7 +71,7 @@ pub struct Write {
     /// The resource that each use names, or none.
     pub uses: Items<Option<usize>>,
     /// `ReleaseAtCycles`, as written.
-    pub cycles: Items<i64>,
+    pub cycles: Numbers,
     /// `Latency`, 1 where it is not given.
     pub latency: i64,
     /// `NumMicroOps`, 1 where it is not given.

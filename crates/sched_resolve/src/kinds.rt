@@ -13,10 +13,11 @@ use crate::entry::{
 };
 use crate::name_space::NameSpace;
 use crate::names::Names;
+use crate::numbers::Numbers;
 use crate::opcodes::ops_named;
 use crate::reading::{
-    argument_atoms, argument_instrs, argument_number, argument_word, behind, field_atoms,
-    field_number, field_truth, first_word, numbers, some_truth, word_of,
+    argument_atoms, argument_instrs, argument_number, argument_word, behind, field_number,
+    field_truth, first_word, numbers, shared_field, some_truth, word_of,
 };
 use mca_fixed::{Items, NoMemory, Text};
 use sched_records::{Atom, Field, Record};
@@ -101,7 +102,7 @@ pub fn write_entry(
         in_model: names.in_model(one),
         again,
         uses: resources_named(alloc, names, argument_atoms(one, place))?,
-        cycles: numbers(alloc, field_atoms(one, Field::ReleaseAtCycles))?,
+        cycles: Numbers::of(shared_field(one, Field::ReleaseAtCycles))?,
         latency: field_number(1, one, Field::Latency),
         micro_ops: field_number(1, one, Field::NumMicroOps),
         begins_group: either(one, Field::BeginGroup, Field::SingleIssue),

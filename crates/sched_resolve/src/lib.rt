@@ -9,6 +9,7 @@
 
 // what a record says
 mod entry;
+mod numbers;
 mod reading;
 // what names stand for
 mod name_space;
@@ -25,5 +26,6 @@ pub use entry::{
     Rewrite, Write, count_of,
 };
 pub use law::places_in_range;
+pub use numbers::Numbers;
 pub use opcodes::all_opcodes;
 pub use resolve::resolve_records;

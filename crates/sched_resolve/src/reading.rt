@@ -7,7 +7,7 @@ ghost use Rattle.sched_resolve.specs.Reading.{argument, value_among, field, numb
 ghost use Rattle.sched_resolve.specs.Entries.{first_name};
 
 use mca_fixed::{Items, Name, NoMemory};
-use sched_records::{Atom, Class, Field, Member, Record, Value, class_of};
+use sched_records::{Atom, Class, Field, Member, Record, Shared, Value, class_of};
 use std::alloc::Global;
 
 /// The class of a record; none where its name is that of no class.
@@ -24,7 +24,7 @@ pub fn argument(one: &Record, place: usize) -> Option<&Value>
     one.args.as_slice().get(place)
 }
 
-fn value_among<'r>(name: &[u8], members: &'r [Member]) -> Option<&'r Value>
+fn value_among<'r>(name: &[u8], members: &'r [Member]) -> Option<&'r Shared<Value>>
     ensures { option_map (λ v. v.now) result ≡ value_among name.now members.now }
 {
     for member in members {
@@ -35,12 +35,22 @@ fn value_among<'r>(name: &[u8], members: &'r [Member]) -> Option<&'r Value>
     None
 }
 
-/// The value of a field that is given.
+/// The value of a field that is given, with its owners.
 #[tactic(auto, unfolding(crate::specs::Reading::field))]
-pub fn field(one: &Record, name: Field) -> Option<&Value>
+pub fn shared_field(one: &Record, name: Field) -> Option<&Shared<Value>>
     ensures { option_map (λ v. v.now) result ≡ field one.now name }
 {
     value_among(name.name().as_bytes(), one.members.as_slice())
+}
+
+/// The value of a field that is given.
+pub fn field(one: &Record, name: Field) -> Option<&Value>
+    ensures { option_map (λ v. v.now) result ≡ field one.now name }
+{
+    match shared_field(one, name) {
+        None => None,
+        Some(value) => Some(value.get()),
+    }
 }
 
 /// The number of an atom, 0 where it is none.
@@ -162,13 +172,6 @@ pub fn field_truth(one: &Record, name: Field) -> bool
     ensures { result ≡ is_true (field one.now name) }
 {
     is_true(field(one, name))
-}
-
-/// The elements of a field that is a list.
-pub fn field_atoms(one: &Record, name: Field) -> &[Atom]
-    ensures { result.now ≡ atoms_in (field one.now name) }
-{
-    atoms_in(field(one, name))
 }
 
 /// The numbers of a list.

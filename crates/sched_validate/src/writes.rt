@@ -7,16 +7,16 @@ use crate::binding::eight;
 use crate::narrow::{count, micro_ops};
 use machine_model::{Use, WriteFacts};
 use mca_fixed::{Items, NoMemory};
-use sched_resolve::Write;
+use sched_resolve::{Numbers, Write};
 use std::alloc::Global;
 
 /// The cycles for which the use at a place holds its unit; 1 where none are given.
-fn hold(cycles: &[i64], place: usize) -> u32
+fn hold(cycles: &Numbers, place: usize) -> u32
     requires { hold_or_one (slice_get cycles.now place) < 2 ^ 32 }
     ensures { result ≡ hold_or_one (slice_get cycles.now place) }
 {
     match cycles.get(place) {
-        Some(cycles) => count(*cycles),
+        Some(cycles) => count(cycles),
         None => 1,
     }
 }
@@ -37,12 +37,11 @@ fn uses(alloc: Global, write: &Write) -> Result<Vec<Use>, NoMemory>
     requires { IsSmallWrite write.now }
     ensures { IfOk result (λ uses. uses.items ≡ uses_by write.now.uses write.now.cycles) }
 {
-    let cycles = write.cycles.as_slice();
     let mut uses = Vec::with_capacity(alloc, write.uses.len())?;
     for (place, resource) in write.uses.as_slice().iter().enumerate() {
         uses.push(Use {
             resource: place_or_first(*resource),
-            hold: hold(cycles, place),
+            hold: hold(&write.cycles, place),
         })?;
     }
     Ok(uses)

@@ -53,7 +53,7 @@ fn put_member(out: &mut String, member: &Member) -> Result<(), Fault> {
     out.push(' ')?;
     put_bytes(out, member.name.as_bytes())?;
     out.push('=')?;
-    put_value(out, &member.value)
+    put_value(out, member.value.get())
 }
 
 /// A value: a list in brackets, and opcodes in parentheses, each item with a blank behind it.
