@@ -93,6 +93,26 @@ fn list(
     Ok(())
 }
 
+/// The cycles that are kept for a read after a write. Many tables list none, and then no key is hashed.
+fn listed_at(listed: &IndexMap<(usize, usize), i32>, key: (usize, usize)) -> Option<i32>
+    ensures { result ≡ get same_pair listed.now key }
+{
+    if listed.is_empty() {
+        return None;
+    }
+    listed.get(&key).copied()
+}
+
+/// The cycles that are kept for a read, after whatever write; the same.
+fn general_at(general: &IndexMap<usize, i32>, read: usize) -> Option<i32>
+    ensures { result ≡ get nat_eq general.now read }
+{
+    if general.is_empty() {
+        return None;
+    }
+    general.get(&read).copied()
+}
+
 impl Advances {
     /// No advance.
     pub(crate) fn none(alloc: Global) -> Advances
@@ -129,11 +149,11 @@ impl Advances {
         ensures { (all : List AdvanceOf) → StandsFor self.now all
             → result ≡ advance_after all read write }
     {
-        if let Some(cycles) = self.listed.get(&(read, write)) {
-            return *cycles;
+        if let Some(cycles) = listed_at(&self.listed, (read, write)) {
+            return cycles;
         }
-        match self.general.get(&read) {
-            Some(cycles) => *cycles,
+        match general_at(&self.general, read) {
+            Some(cycles) => cycles,
             None => 0,
         }
     }
