@@ -44,7 +44,7 @@ compare() {
     our_cycles=$(cycles "$work/out")
     theirs=$(least "$peer" -mtriple=riscv64 -mattr=+m "-mcpu=$4" "-iterations=$3" $plain "$work/$2.s") || return
     awk -v name="$1" -v core="$4" -v ours="$ours" -v theirs="$theirs" -v c="$our_cycles" -v d="$(cycles "$work/out")" 'BEGIN {
-        printf "| %s | %s | %.1f ms | %.1f ms | %.2f | %s | %s |\n", name, core, ours / 1000, theirs / 1000, ours / theirs, c, d }'
+        printf "| %s | %s | %.1f ms | %.1f ms | %.3f | %s | %s |\n", name, core, ours / 1000, theirs / 1000, ours / theirs, c, d }'
 }
 
 # The body that is timed is the program's own: both have the same summary.
