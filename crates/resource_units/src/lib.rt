@@ -6,7 +6,6 @@
 //! uses that took a unit (`cycle_rules` has the rules over that list). No call but `make` takes memory.
 #![tactic(auto)]
 
-mod next;
 mod search;
 mod units;
 

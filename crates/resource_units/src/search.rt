@@ -2,6 +2,7 @@
 ghost use Rattle.std.specs.Prelude.{◌≡◌, ◌<◌, ◌+◌, ℕ, true, false, IfSome, length, replicate, List, [], ◌∷◌, is_some, slice_index, slice_set, not, ◌&&◌, ◌||◌, nat_eq};
 ghost use Rattle.unit_sets.specs.Below.{cyclic_from};
 ghost use Rattle.machine_model.specs.declared.facts.Use.{Use as UseOf};
+ghost use Rattle.cycle_rules.specs.declared.times.TheConstants.{NO_UNIT};
 ghost use Rattle.resource_units.specs.Kept.{turned, found_units, knows};
 
 use machine_model::{Machine, Use};
@@ -40,7 +41,7 @@ impl<K: UnitMask> Search<K> {
     pub(crate) fn take_unit(&mut self, units: K, resource: usize) -> Option<usize>
         requires resource { resource < 64 }
         requires some { 0 < K.SIZE }
-        requires few { (v : ℕ) → K.holds units v ≡ true → v < 65535 }
+        requires few { (v : ℕ) → K.holds units v ≡ true → v < NO_UNIT }
         ensures found { result ≡ cyclic_from K.SIZE (turned K.SIZE
             (slice_index self.old.places resource)) (λ v. K.holds units v && not
             (K.holds self.old.held v)) }

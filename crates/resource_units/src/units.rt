@@ -1,14 +1,14 @@
 //! The units of a machine.
 ghost use Rattle.std.specs.Prelude.{◌≡◌, ◌<◌, ℕ, length, nat_lt, nat_le, nat_eq, not, ◌&&◌, slice_index};
 ghost use Rattle.resource_units.specs.Kept.{IsSoonest, passed};
+ghost use Rattle.machine_model.specs.declared.limits.TheConstants.{MOST_CYCLES};
 
-use crate::next::next_member;
 use crate::search::{Search, find, finds_all, finds_one};
 use cycle_rules::{Bound, NO_UNIT};
 use machine_model::{Machine, Use};
 use mca_fixed::NoMemory;
 use std::alloc::Global;
-use unit_sets::UnitMask;
+use unit_sets::{UnitMask, next_member};
 
 /// The units of a machine. Contracts see the uses that took units so far, in issue order (`StandsFor`), as
 /// they are seen from a cycle on: cycles never fall from call to call.
@@ -205,7 +205,7 @@ impl<'a, M: Machine> Units<'a, M> {
     // Takes a unit for a use in cycle `c`, if it holds one at all.
     fn take_use(&mut self, used: &Use, c: u64) -> u16
         requires resource { used.now.resource < (machine_of M.meaning self.old).resource_count }
-        requires short { used.now.hold ≤ 1000000 }
+        requires short { used.now.hold ≤ MOST_CYCLES }
         requires cycle { c < 2 ^ 63 }
         requires later { c < self.old.next }
         requires can { (earlier : List Taken) × (StandsFor M.meaning M.Mask.holds c self.old earlier
@@ -233,7 +233,7 @@ impl<'a, M: Machine> Units<'a, M> {
     fn hold(&mut self, used: &Use, c: u64) -> u16
         requires resource { used.now.resource < (machine_of M.meaning self.old).resource_count }
         requires some { 0 < used.now.hold }
-        requires short { used.now.hold ≤ 1000000 }
+        requires short { used.now.hold ≤ MOST_CYCLES }
         requires cycle { c < 2 ^ 63 }
         requires later { c < self.old.next }
         requires can { (earlier : List Taken) × (StandsFor M.meaning M.Mask.holds c self.old earlier

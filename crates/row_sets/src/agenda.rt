@@ -4,10 +4,10 @@ ghost use Rattle.unit_sets.specs.Members.{in_word, NoneFrom};
 ghost use Rattle.row_sets.specs.Kept.{is_waiting, IsDue, IsFirstOf, IsSoonest, IsIndex, NoneWaitsIn};
 ghost use Rattle.row_sets.specs.Rows.{row_at};
 
-use crate::bits::{next_in, with_member};
+use crate::bits::with_member;
 use mca_fixed::NoMemory;
 use std::alloc::Global;
-use unit_sets::UnitMask;
+use unit_sets::{UnitMask, next_in};
 
 /// For each of the rows in flight at most one cycle that it waits for.
 #[derive(Drop)]

@@ -1,6 +1,6 @@
 //! Words as sets of 64 numbers.
-ghost use Rattle.std.specs.Prelude.{◌≡◌, ℕ, ◌<◌, ◌||◌, MatchOption, nat_eq, if◌then◌else◌};
-ghost use Rattle.unit_sets.specs.Members.{IsNext, NoneFrom, in_word};
+ghost use Rattle.std.specs.Prelude.{◌≡◌, ℕ, ◌<◌, ◌||◌, nat_eq, if◌then◌else◌};
+ghost use Rattle.unit_sets.specs.Members.{in_word};
 
 use unit_sets::UnitMask;
 
@@ -9,19 +9,6 @@ pub(crate) fn union(a: u64, b: u64) -> u64
     ensures { (v : ℕ) → in_word result v ≡ (in_word a v || in_word b v) }
 {
     a | b
-}
-
-// The least number of a word from `pos` on.
-pub(crate) fn next_in(word: u64, pos: usize) -> Option<usize>
-    requires { pos < 64 }
-    ensures { MatchOption result (NoneFrom 64 (in_word word) pos) (IsNext 64 (in_word word) pos) }
-{
-    let rest = word >> pos;
-    if rest == 0 {
-        None
-    } else {
-        Some(pos + rest.trailing_zeros() as usize)
-    }
 }
 
 // The numbers of a word, with `u` or without it.

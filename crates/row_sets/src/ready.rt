@@ -4,10 +4,10 @@ ghost use Rattle.unit_sets.specs.Members.{in_word};
 ghost use Rattle.row_sets.specs.Kept.{is_in, IsMerged};
 ghost use Rattle.row_sets.specs.Rows.{word_of};
 
-use crate::bits::{next_in, union, with_member};
+use crate::bits::{union, with_member};
 use mca_fixed::NoMemory;
 use std::alloc::Global;
-use unit_sets::UnitMask;
+use unit_sets::{UnitMask, next_in};
 
 /// Sets of rows in flight, one for each of 64 classes.
 #[derive(Drop)]

@@ -5,11 +5,14 @@
 #![tactic(auto)]
 
 mod mask;
+mod next;
 mod set;
 mod word;
 
 pub use mask::UnitMask;
+pub use next::next_member;
 pub use set::UnitSet;
+pub use word::next_in;
 
 #[cfg(test)]
 mod tests;

@@ -27,8 +27,9 @@ pub(crate) fn has_bit(word: u64, u: usize) -> bool
     (word >> u) & 1 == 1
 }
 
-// The least number in `word` of pos or more.
-pub(crate) fn next_in(word: u64, pos: usize) -> Option<usize>
+/// The least number in `word`, the set of the numbers of its bits, of `pos`, below 64, or more. `None`
+/// exactly where there is none.
+pub fn next_in(word: u64, pos: usize) -> Option<usize>
     requires { pos < 64 }
     ensures { MatchOption result (NoneFrom 64 (in_word word) pos) (IsNext 64 (in_word word) pos) }
 {

@@ -2,10 +2,10 @@
 ghost use Rattle.std.specs.Prelude.{◌≡◌, ◌<◌, ◌≤◌, ℕ, MatchOption};
 ghost use Rattle.unit_sets.specs.Members.{IsNext, NoneFrom};
 
-use unit_sets::UnitMask;
+use crate::mask::UnitMask;
 
-/// The least member from `pos` on and below `end`.
-pub(crate) fn next_member<K: UnitMask>(set: &K, pos: usize, end: usize) -> Option<usize>
+/// The least number of a set from `pos` on and below `end`, `SIZE` at most.
+pub fn next_member<K: UnitMask>(set: &K, pos: usize, end: usize) -> Option<usize>
     requires within { pos < end }
     requires fits { end ≤ K.SIZE }
     ensures { MatchOption result (NoneFrom end (K.holds set.now) pos) (IsNext end
