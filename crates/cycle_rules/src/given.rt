@@ -2,6 +2,7 @@
 ghost use Rattle.std.specs.Prelude.{◌≡◌, ◌<◌, ◌≤◌, length};
 ghost use Rattle.cycle_rules.specs.Bind.{row_of};
 ghost use Rattle.cycle_rules.specs.Row.{phase};
+ghost use Rattle.mca_fixed.specs.declared.limits.TheConstants.{MOST_ROWS};
 
 use crate::bound::Bound;
 use crate::times::Times;
@@ -31,7 +32,7 @@ pub(crate) struct Given<'a> {
     pub(crate) rows: &'a [Times],
     pub(crate) count: usize,
     pub(crate) ghost some: { 0 < length body.now },
-    pub(crate) ghost few: { count ≤ 1048576 },
+    pub(crate) ghost few: { count ≤ MOST_ROWS },
 }
 
 impl<'a> Given<'a> {

@@ -3,6 +3,7 @@ ghost use Rattle.std.specs.Prelude.{◌≡◌, ◌<◌, ◌≤◌, true, ◌||�
 ghost use Rattle.machine_model.specs.Valid.{no_class};
 ghost use Rattle.cycle_rules.specs.Bind.{IsBound};
 ghost use Rattle.cycle_rules.specs.Row.{lead, advance_of};
+ghost use Rattle.machine_model.specs.declared.limits.TheConstants.{MOST_CYCLES};
 
 use crate::bound::Bound;
 use machine_model::Machine;
@@ -25,7 +26,7 @@ pub fn lead_of<M: Machine>(machine: &M, latency: u32, read: u16, write: u16) -> 
     requires class { (nat_eq read no_class || nat_lt read (M.meaning machine.now).read_count)
         ≡ true }
     requires write { write < (M.meaning machine.now).write_count }
-    requires latency { latency ≤ 1000000 }
+    requires latency { latency ≤ MOST_CYCLES }
     ensures { result ≡ lead latency (advance_of (M.meaning machine.now) read write) }
 {
     let advance = machine.advance(read, write);

@@ -1,5 +1,5 @@
 //! Whether a row has room to dispatch, by counts over the older rows of a table.
-ghost use Rattle.std.specs.Prelude.{true, ◌≡◌, ◌+◌, ◌*◌, ◌<◌, ◌≤◌, ◌&&◌, ◌||◌, ℕ, Option, Some, length, min, not, nat_lt, nat_le, nat_eq, take, if◌then◌else◌};
+ghost use Rattle.std.specs.Prelude.{true, ◌≡◌, ◌+◌, ◌*◌, ◌^◌, ◌<◌, ◌≤◌, ◌&&◌, ◌||◌, ℕ, Option, Some, length, min, not, nat_lt, nat_le, nat_eq, take, if◌then◌else◌};
 ghost use Rattle.std.specs.List.{list_any, list_all};
 ghost use Rattle.cycle_rules.specs.Below.{sum_below, count_below, all_below};
 ghost use Rattle.cycle_rules.specs.Bind.{AreBound, IsBound, row_of};
@@ -7,6 +7,7 @@ ghost use Rattle.cycle_rules.specs.Dispatch.{cost_in, cost_of, fits_buffers, fit
 ghost use Rattle.cycle_rules.specs.Given.{row_in, input_in, size_in};
 ghost use Rattle.cycle_rules.specs.Row.{times, is_load, is_store, names, entries};
 ghost use Rattle.machine_model.specs.declared.facts.Use.{Use as UseOf};
+ghost use Rattle.mca_fixed.specs.declared.limits.TheConstants.{MOST_ROWS};
 
 use crate::given::{Given, used_by};
 use machine_model::{FileShare, Kind, Machine, Use};
@@ -40,7 +41,7 @@ pub(crate) fn shares(given: &Given, width: u32, reorder: u32, j: usize, c: u64) 
     requires given { j < length given.now.rows.now }
     ensures is { result ≡ sum_below j (λ k. share width (size_in given.now.body.now reorder k)
         (times given.now.rows.now k).dispatch c) }
-    ensures low { result ≤ j * 4294967295 }
+    ensures low { result ≤ j * 2 ^ 32 }
 {
     let mut sum = 0;
     for k in 0..j {
@@ -89,7 +90,7 @@ fn needs_empty(begins_group: bool, size: u32, width: u32) -> bool
 
 // Whether a group of which so much is taken has place for a row.
 fn has_place(width: u32, size: u32, taken: u64, alone: bool, joins: bool) -> bool
-    requires { taken ≤ 1048576 * 4294967295 }
+    requires { taken ≤ MOST_ROWS * 2 ^ 32 }
     ensures { result ≡ (nat_le (taken + min size width) width && (not alone || nat_eq taken 0)
         && joins) }
 {
@@ -134,7 +135,7 @@ fn held_sizes(given: &Given, reorder: u32, j: usize, c: u64) -> u64
     requires given { j < length given.now.rows.now }
     ensures is { result ≡ sum_below j (λ k. if is_held (times given.now.rows.now) c k then size_in
         given.now.body.now reorder k else 0) }
-    ensures low { result ≤ j * 4294967295 }
+    ensures low { result ≤ j * 2 ^ 32 }
 {
     let mut sum = 0;
     for k in 0..j {
@@ -240,7 +241,7 @@ fn held_costs<M: Machine>(machine: &M, given: &Given, file: u8, j: usize, c: u64
     requires given { j < length given.now.rows.now }
     ensures is { result ≡ sum_below j (λ k. if is_held (times given.now.rows.now) c k then cost_in
         (M.meaning machine.now) file (row_in given.now.body.now k).rd else 0) }
-    ensures low { result ≤ j * 4294967295 }
+    ensures low { result ≤ j * 2 ^ 32 }
 {
     let mut sum = 0;
     for k in 0..j {

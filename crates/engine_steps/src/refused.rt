@@ -7,7 +7,7 @@ ghost use Rattle.resource_units.specs.Kept.{HasUses};
 ghost use Rattle.resource_units.specs.Stand.{StandsFor as UnitsStandFor, machine_of};
 ghost use Rattle.engine_steps.specs.Refused.{AreRefused, HasOneUse};
 
-use crate::wakeup::class_of;
+use crate::wakeup::{OTHERS, class_of};
 use cycle_rules::Bound;
 use machine_model::Machine;
 use resource_units::Units;
@@ -22,7 +22,7 @@ pub fn refuse<M: Machine>(units: &Units<M>, b: &Bound, refused: &mut u64, c: u64
         AreRefused (machine_of M.meaning units.now) taken c refused.new }
 {
     let class = class_of(b);
-    if class == 63 {
+    if class == OTHERS {
         return;
     }
     if units.can_take(b, c) {

@@ -19,6 +19,9 @@ use row_sets::{Agenda, ReadyRows};
 use rv_isa::Kind;
 use std::alloc::Global;
 
+/// The class of the rows that have no class of their own.
+pub const OTHERS: usize = 63;
+
 /// Which rows in flight are ready to issue, by class, and for which cycle others wait: a row that waits to
 /// issue for that in which its last operand is ready, where it is known, and a row that has issued and takes
 /// part in the order of memory for its completion. A row that waits for another to issue is in neither.
@@ -44,23 +47,23 @@ fn class_of_use(used: &Use) -> usize
     ensures { result ≡ class_of_use used.now }
 {
     if used.hold == 0 {
-        return 63;
+        return OTHERS;
     }
-    if used.resource >= 63 {
-        return 63;
+    if used.resource as usize >= OTHERS {
+        return OTHERS;
     }
     used.resource as usize
 }
 
 /// The class of an instruction: the resource of its one use, where the use holds its unit and the resource's
-/// number is below 63; 63 for all others.
+/// number is below `OTHERS`; `OTHERS` for all others.
 pub fn class_of(b: &Bound) -> usize
     requires { b.now.use_count ≤ 8 }
     ensures { result ≡ class_of (row_of b.now).uses }
 {
     let uses = &b.uses[..b.use_count as usize];
     if uses.len() != 1 {
-        return 63;
+        return OTHERS;
     }
     class_of_use(&uses[0])
 }

@@ -18,6 +18,7 @@ ghost use Rattle.cycle_rules.specs.Totals.{
   throughput,
 };
 ghost use Rattle.mca_views.specs.Shown.{IsEntry};
+ghost use Rattle.mca_fixed.specs.declared.limits.TheConstants.{MOST_ROWS};
 
 use cycle_rules::Bound;
 use machine_model::{Machine, Use};
@@ -39,7 +40,7 @@ pub(crate) fn ratio(num: u64, den: u64) -> Frac
 /// The reciprocal throughput of a body.
 pub(crate) fn block_throughput<M: Machine>(machine: &M, body: &[Bound]) -> Frac
     requires entry { All (IsEntry (M.meaning machine.now)) body.now }
-    requires few { length body.now ≤ 1048576 }
+    requires few { length body.now ≤ MOST_ROWS }
     ensures is { result ≡ block_throughput (M.meaning machine.now) body.now }
     ensures den { 1 ≤ result.den }
     ensures num_high { result.num < 2 ^ 64 }
@@ -67,7 +68,7 @@ pub(crate) fn throughput<M: Machine>(machine: &M, b: &Bound) -> Frac
 /// The micro-ops of a body that is repeated.
 pub(crate) fn total_uops(body: &[Bound], iterations: u32) -> u64
     requires some { 1 ≤ iterations }
-    requires few { iterations * length body.now ≤ 1048576 }
+    requires few { iterations * length body.now ≤ MOST_ROWS }
     ensures { (m : MachineMeaning) →
         result ≡ total_uops (input m (map row_of body.now) iterations) }
 {
@@ -76,7 +77,7 @@ pub(crate) fn total_uops(body: &[Bound], iterations: u32) -> u64
 
 /// The micro-ops of a body.
 fn body_uops(body: &[Bound]) -> u64
-    requires few { length body.now ≤ 1048576 }
+    requires few { length body.now ≤ MOST_ROWS }
     ensures is { result ≡ body_uops body.now }
     ensures low { result ≤ length body.now * 65535 }
 {
@@ -90,7 +91,7 @@ fn body_uops(body: &[Bound]) -> u64
 /// The greatest of a fraction and, for each resource, of the holds of instructions over its units.
 fn greatest_load<M: Machine>(machine: &M, first: Frac, body: &[Bound]) -> Frac
     requires counts { All (λ b. b.use_count ≤ 8) body.now }
-    requires few { length body.now ≤ 1048576 }
+    requires few { length body.now ≤ MOST_ROWS }
     requires den { 1 ≤ first.den }
     requires num_high { first.num < 2 ^ 64 }
     requires den_high { first.den < 2 ^ 64 }
@@ -133,7 +134,7 @@ fn greater(a: Frac, b: Frac) -> Frac
 
 /// For how many cycles the uses of instructions hold units of a resource.
 fn body_holds(r: usize, body: &[Bound]) -> u64
-    requires few { length body.now ≤ 1048576 }
+    requires few { length body.now ≤ MOST_ROWS }
     requires counts { All (λ b. b.use_count ≤ 8) body.now }
     ensures { result ≡ body_holds r body.now }
 {

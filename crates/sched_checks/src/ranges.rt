@@ -3,7 +3,9 @@ ghost use Rattle.std.specs.Prelude.{◌≡◌, [], ◌||◌, pos, neg_ℤ, nat_l
 ghost use Rattle.std.specs.List.{list_any};
 ghost use Rattle.std.specs.Option.{option_to_list};
 ghost use Rattle.sched_checks.specs.Checks.{is_outside, bad_units, entry_units, out_of_range};
+ghost use Rattle.machine_model.specs.declared.limits.TheConstants.{MOST_CYCLES, MOST_FILE_REGISTERS};
 
+use machine_model::{MOST_CYCLES, MOST_FILE_REGISTERS};
 use sched_resolve::{Advance, Entry, File, Makeup, Model, Numbers, Resource, Retirement, Write};
 
 fn is_outside(low: i64, high: i64, number: i64) -> bool
@@ -20,16 +22,16 @@ fn any_outside(low: i64, high: i64, numbers: &[i64]) -> bool
 
 /// Whether a use may not hold a unit for so long, if it is given for how long.
 fn is_bad_hold(cycles: Option<i64>) -> bool
-    ensures { result ≡ list_any (is_outside (pos 0) (pos 1000000)) (option_to_list cycles) }
+    ensures { result ≡ list_any (is_outside (pos 0) (pos MOST_CYCLES)) (option_to_list cycles) }
 {
     match cycles {
         None => false,
-        Some(cycles) => is_outside(0, 1_000_000, cycles),
+        Some(cycles) => is_outside(0, MOST_CYCLES as i64, cycles),
     }
 }
 
 fn some_bad_hold(cycles: &Numbers) -> bool
-    ensures { result ≡ list_any (is_outside (pos 0) (pos 1000000)) cycles.now }
+    ensures { result ≡ list_any (is_outside (pos 0) (pos MOST_CYCLES)) cycles.now }
 {
     for place in 0..cycles.len() {
         if is_bad_hold(cycles.get(place)) {
@@ -75,7 +77,7 @@ pub fn bad_resource(resource: &Resource) -> bool
 pub fn bad_write(write: &Write) -> bool
     ensures { result ≡ out_of_range [] (Entry.Write write.now) }
 {
-    is_outside(0, 1_000_000, write.latency)
+    is_outside(0, MOST_CYCLES as i64, write.latency)
         || is_outside(1, 4096, write.micro_ops)
         || some_bad_hold(&write.cycles)
         || 8 < write.uses.len()
@@ -90,9 +92,9 @@ pub fn bad_advance(advance: &Advance) -> bool
 /// A number of the file is outside its range; how many there are is another matter.
 pub fn bad_file(file: &File) -> bool
     ensures { result
-        ≡ (is_outside (pos 0) (pos 65536) file.now.size || list_any (is_outside (pos 1) (pos 8)) file.now.costs) }
+        ≡ (is_outside (pos 0) (pos MOST_FILE_REGISTERS) file.now.size || list_any (is_outside (pos 1) (pos 8)) file.now.costs) }
 {
-    is_outside(0, 65536, file.size) || any_outside(1, 8, file.costs.as_slice())
+    is_outside(0, MOST_FILE_REGISTERS as i64, file.size) || any_outside(1, 8, file.costs.as_slice())
 }
 
 pub fn bad_retirement(retirement: &Retirement) -> bool
