@@ -22,3 +22,4 @@ pub mod TakenRows
 pub mod Asking
 pub mod Forward
 pub mod Exists
+pub mod Summed

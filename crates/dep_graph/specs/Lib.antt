@@ -8,5 +8,6 @@ pub mod Stalls
 pub mod Taking
 pub mod Thresholds
 pub mod Turns
+pub mod WaitSums
 pub mod Walk
 pub mod Worked

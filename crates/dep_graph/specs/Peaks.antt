@@ -10,6 +10,7 @@ use Rattle.dep_graph.specs.PassTimes.{read_time, reads_time, let_go}
 use Rattle.dep_graph.specs.Blamed.{register_blamed, memory_blamed}
 use Rattle.dep_graph.specs.declared.peak.Peak.{Peak}
 use Rattle.dep_graph.specs.declared.memory.Fences.{Fences}
+use Rattle.dep_graph.specs.declared.waits.Older.{Older}
 use Rattle.dep_graph.specs.declared.waits.Wait.{Wait}
 use Rattle.dep_graph.specs.declared.waits.Waits.{Waits}
 
@@ -45,6 +46,11 @@ pub record AreFences (g : Input) (t : Table) (j : ℕ) (fences : Fences) : Type 
   pub load : IsPeak (λ k. let_go Load (g.row k).kind g.machine.limits.no_alias (is_fenced g k j) (t k).issue (t k).complete) j fences.load
   pub store : IsPeak (λ k. let_go Store (g.row k).kind g.machine.limits.no_alias true (t k).issue (t k).complete) j fences.store
   pub barrier : IsPeak (λ k. let_go Barrier (g.row k).kind g.machine.limits.no_alias true (t k).issue (t k).complete) j fences.barrier
+
+-- what the rows older than row j leave to it
+pub record AreOlder (g : Input) (t : Table) (j : ℕ) (older : Older) : Type 0 where
+  pub writers : AreWriters g j older.writers.last
+  pub fences : AreFences g t j older.fences
 
 -- a wait, and the row that is blamed for it
 pub record IsWait (cycles : ℕ) (blamed : Option ℕ) (wait : Wait) : Type 0 where

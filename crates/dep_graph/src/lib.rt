@@ -3,12 +3,14 @@
 //! `edges` gives the waits of a run as a graph: from the row that is blamed to the row that waited.
 //! It goes over the rows in program order, with the last writer of each register and the rows that
 //! hold memory back last, and then in issue order, with the units and the rows that took them last.
+//! `wait_sums` adds the waits up, by what was waited for.
 //! `stalls` counts the cycles in which the next row did not dispatch, by what it lacked first: each
 //! lack ends in one cycle, so no cycle is looked at.
 //!
 //! | file | what it says |
 //! |---|---|
 //! | `Blamed`, `RunGraph` | the row that is blamed for a wait, and the graph of all waits |
+//! | `WaitSums` | the sums of waits |
 //! | `Stalls` | what a row lacks, and the counts of stalls |
 //! | `PassTimes`, `Peaks` | from which cycle on values are there and older rows let a row go |
 //! | `Thresholds`, `Walk`, `RowCounts` | the stalls of one row, and what is kept for them |
@@ -41,6 +43,7 @@ mod peak;
 mod reads;
 mod rows;
 mod stall_counts;
+mod sums;
 mod unit_waits;
 mod waits;
 mod walk;
@@ -48,6 +51,7 @@ mod window;
 
 pub use graph::edges;
 pub use stall_counts::stalls;
+pub use sums::{WaitSums, wait_sums};
 
 /// Waits as edges, and stalls, of runs that were worked out by hand.
 pub fn worked()

@@ -1,8 +1,8 @@
 //! The waits of rows for values and for the order of memory.
 ghost use Rattle.std.specs.Prelude.{◌≡◌, ◌<◌, ◌≤◌, ◌+◌, ◌-◌, ℕ, length, IfOk};
-ghost use Rattle.cycle_rules.specs.Row.{times};
+ghost use Rattle.cycle_rules.specs.Row.{Input, Table, times};
 ghost use Rattle.cycle_rules.specs.Waits.{earliest};
-ghost use Rattle.dep_graph.specs.Peaks.{AreWriters, AreFences, AreWaits, waits_at};
+ghost use Rattle.dep_graph.specs.Peaks.{AreOlder, AreWaits, waits_at};
 ghost use Rattle.dep_graph.specs.Walk.{IsSoundRun};
 
 use crate::memory::Fences;
@@ -51,21 +51,60 @@ fn until(from: u64, last: Peak) -> Wait
     }
 }
 
-// The waits of row j, by what is kept of those before.
-fn waits_of<R: Rows>(rows: &R, writers: &Writers, fences: &Fences, j: usize) -> Waits
-    requires run { IsSoundRun (R.input rows.now) (R.table rows.now) }
-    requires row { j < (R.input rows.now).rows }
-    requires writers { AreWriters (R.input rows.now) j writers.now.last }
-    requires fences { AreFences (R.input rows.now) (times (R.table rows.now)) j fences.now }
-    ensures { AreWaits (R.input rows.now) (times (R.table rows.now)) j result }
-{
-    let b = rows.instruction(j);
-    let from = earliest(rows, j);
-    let late = writers.times(rows, j, &b.reads[..b.read_count as usize]);
-    let ready = from.max(late.time);
-    Waits {
-        register: until(from, late),
-        memory: until(ready, fences.of_kind(b.kind)),
+/// What the rows that have gone by leave to the next one: which of them wrote each register last, and
+/// from when on they let it go, by the order of memory.
+#[derive(Drop)]
+pub struct Older {
+    pub writers: Writers,
+    pub fences: Fences,
+}
+
+impl Older {
+    /// Before the first row.
+    pub fn none() -> Older
+        ensures { (g : Input) (t : Table) → AreOlder g t 0 result }
+    {
+        Older {
+            writers: Writers::none(),
+            fences: Fences::none(),
+        }
+    }
+
+    /// Lets row j go by, and gives its waits.
+    pub fn pass<R: Rows>(&mut self, rows: &R, j: usize) -> Waits
+        requires run { IsSoundRun (R.input rows.now) (R.table rows.now) }
+        requires row { j < (R.input rows.now).rows }
+        requires older { AreOlder (R.input rows.now) (times (R.table rows.now)) j self.old }
+        ensures older { AreOlder (R.input rows.now) (times (R.table rows.now)) (j + 1) self.new }
+        ensures waits { AreWaits (R.input rows.now) (times (R.table rows.now)) j result }
+    {
+        let waits = self.waits_of(rows, j);
+        let b = rows.instruction(j);
+        let times = rows.times(j);
+        let no_alias = rows.limits().no_alias;
+        self.writers.pass(j as u32, b.rd);
+        self.fences
+            .pass(j as u32, b.kind, no_alias, times.issue, times.complete);
+        waits
+    }
+
+    // The waits of row j.
+    fn waits_of<R: Rows>(&self, rows: &R, j: usize) -> Waits
+        requires run { IsSoundRun (R.input rows.now) (R.table rows.now) }
+        requires row { j < (R.input rows.now).rows }
+        requires older { AreOlder (R.input rows.now) (times (R.table rows.now)) j self.now }
+        ensures { AreWaits (R.input rows.now) (times (R.table rows.now)) j result }
+    {
+        let b = rows.instruction(j);
+        let from = earliest(rows, j);
+        let late = self
+            .writers
+            .times(rows, j, &b.reads[..b.read_count as usize]);
+        let ready = from.max(late.time);
+        Waits {
+            register: until(from, late),
+            memory: until(ready, self.fences.of_kind(b.kind)),
+        }
     }
 }
 
@@ -76,16 +115,10 @@ pub fn all_waits<R: Rows>(alloc: Global, rows: &R) -> Result<Vec<Waits>, NoMemor
     ensures waits { IfOk result (λ waits. (j : ℕ) → j < (R.input rows.now).rows →
         AreWaits (R.input rows.now) (times (R.table rows.now)) j (waits_at waits.items j)) }
 {
-    let mut writers = Writers::none();
-    let mut fences = Fences::none();
+    let mut older = Older::none();
     let mut waits = Vec::with_capacity(alloc, rows.count())?;
     for j in 0..rows.count() {
-        waits.push(waits_of(rows, &writers, &fences, j))?;
-        let b = rows.instruction(j);
-        let times = rows.times(j);
-        let no_alias = rows.limits().no_alias;
-        writers.pass(j as u32, b.rd);
-        fences.pass(j as u32, b.kind, no_alias, times.issue, times.complete);
+        waits.push(older.pass(rows, j))?;
     }
     Ok(waits)
 }

@@ -17,5 +17,4 @@ pub mod SumRows
 pub mod Tags
 pub mod Places
 pub mod RegionParts
-pub mod Waiting
 pub mod WorkedSequence

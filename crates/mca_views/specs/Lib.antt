@@ -9,7 +9,6 @@ pub mod WaitTimes
 pub mod Past
 pub mod Sums
 pub mod Region
-pub mod Waited
 pub mod Bottleneck
 pub mod Pressure
 pub mod WorkedPressure

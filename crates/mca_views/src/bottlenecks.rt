@@ -16,9 +16,8 @@ use crate::cells::counted;
 use crate::fault::ViewFault;
 use crate::page::Page;
 use crate::view::View;
-use crate::waited::wait_sums;
 use critical_chain::{Chain, Edge, EdgeKind, critical};
-use dep_graph::{edges, stalls};
+use dep_graph::{edges, stalls, wait_sums};
 use itoa::write_digits;
 use machine_model::Machine;
 use mca_fixed::NoMemory;
@@ -134,12 +133,14 @@ pub(crate) fn put_bottleneck<M: Machine>(
 fn put_waits<M: Machine>(alloc: Global, page: &mut Page, v: &View<M>) -> Result<(), ViewFault>
     requires closed { page.old.open_line ≡ [] }
     requires shown { IsShown (shown M.meaning v.now) }
+    requires bound { IsBoundBody (M.meaning v.now.machine.now) v.now.body.now }
+    requires run { IsRunOf (run_of (shown M.meaning v.now)) v.now.run.now.rows }
     ensures ok { OnOk result (page.new ≡ added page.old
         (lines (waited_lines (shown M.meaning v.now)))) }
     ensures long { IfErr result (Over page.old.room (length (added page.old
         (lines (waited_lines (shown M.meaning v.now)))).text)) }
 {
-    let sums = wait_sums(alloc, v)?;
+    let sums = wait_sums(v.machine, v.body, v.iterations, v.run);
     put_sums(alloc, page, sums.registers, sums.memory, sums.resources)?;
     Ok(())
 }

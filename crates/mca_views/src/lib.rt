@@ -9,7 +9,7 @@
 //! | `Page`, `Fault` | a page that is written line by line, and when it is too long |
 //! | `Summary`, `Information`, `Pressure`, `Timeline`, `WaitTimes` | the lines of each view |
 //! | `Bottleneck` | the lines of that view, and the chain that it shows |
-//! | `Past`, `Sums`, `Waited` | what is kept while the rows are passed for the waits |
+//! | `Past`, `Sums` | what is kept while the rows are passed for the waits |
 //! | `Region` | the report of a region: the views that are on, in their order |
 //! | `Worked`, `WorkedPressure`, `WorkedTimes`, `WorkedBottleneck` | reports that were worked out by hand |
 //!
@@ -47,7 +47,6 @@ mod timelines;
 mod totals;
 mod view;
 mod wait_times;
-mod waited;
 
 pub use bottlenecks::{bottleneck, one_bottleneck, sequence_for, some_sequence, worked_bottleneck};
 pub use fault::ViewFault;

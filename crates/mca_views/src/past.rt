@@ -3,7 +3,7 @@ ghost use Rattle.std.specs.Prelude.{◌≡◌, ◌<◌, ◌≤◌, ◌+◌, ◌%
 ghost use Rattle.machine_model.specs.Valid.{no_class};
 ghost use Rattle.cycle_rules.specs.Bind.{row_of, has_class};
 ghost use Rattle.cycle_rules.specs.Row.{Input, Table, times};
-ghost use Rattle.cycle_rules.specs.Waits.{earliest, operands_at, memory_at};
+ghost use Rattle.cycle_rules.specs.Waits.{earliest, memory_at};
 ghost use Rattle.cycle_rules.specs.WaitTimes.{seen_from, value_time, read_time, reads_time};
 ghost use Rattle.mca_views.specs.Past.{IsPast, IsLatest};
 ghost use Rattle.mca_views.specs.Shown.{shown, run_of, IsShown, IsEntry};
@@ -14,17 +14,6 @@ use cycle_rules::{Bound, Source, lead_of};
 use machine_model::Machine;
 use mca_fixed::NoMemory;
 use std::alloc::Global;
-
-/// What a row waits for before it may issue, in cycles; none is later than its issue.
-#[derive(Clone, Copy, Debug)]
-pub(crate) struct Ready {
-    /// The first cycle in which it may issue at all.
-    pub(crate) earliest: u64,
-    /// The first from there on in which it has its operands.
-    pub(crate) operands: u64,
-    /// The first from there on in which the order of memory lets it go.
-    pub(crate) memory: u64,
-}
 
 /// What the rows so far leave behind.
 #[derive(Drop)]
@@ -83,24 +72,6 @@ impl Past {
             j self.now }
         ensures { result ≡ memory_at (run_of (shown M.meaning v.now)) (times v.now.run.now.rows) j }
     {
-        self.ready(v, j, place).memory
-    }
-
-    /// From when on row j, at a place of the body, has what it waits for.
-    pub(crate) fn ready<M: Machine>(&self, v: &View<M>, j: usize, place: usize) -> Ready
-        requires shown { IsShown (shown M.meaning v.now) }
-        requires row { j < length v.now.run.now.rows }
-        requires place { place ≡ j % length v.now.body.now }
-        requires past { IsPast (run_of (shown M.meaning v.now)) (times v.now.run.now.rows)
-            j self.now }
-        ensures earliest { result.earliest
-            ≡ earliest (run_of (shown M.meaning v.now)) (times v.now.run.now.rows) j }
-        ensures operands { result.operands
-            ≡ operands_at (run_of (shown M.meaning v.now)) (times v.now.run.now.rows) j }
-        ensures memory { result.memory
-            ≡ memory_at (run_of (shown M.meaning v.now)) (times v.now.run.now.rows) j }
-        ensures order { (result.earliest ≤ result.operands) × (result.operands ≤ result.memory) }
-    {
         let b = &v.body[place];
         let row = &v.run.rows.as_slice()[j];
         let earliest = earliest(b.reserved, row.dispatch);
@@ -109,12 +80,7 @@ impl Past {
             .latest(b.reserved)
             .lets_go(b.kind, v.machine.limits().no_alias);
         let operands = earliest.max(row.issue.min(reads));
-        let memory = operands.max(row.issue.min(order));
-        Ready {
-            earliest,
-            operands,
-            memory,
-        }
+        operands.max(row.issue.min(order))
     }
 
     /// The latest cycles, as a row finds them.
@@ -202,14 +168,6 @@ fn place_of(k: usize, j: usize, place: usize, size: usize) -> usize
         }
     }
     k % size
-}
-
-/// The place of the row after one that stands at a place, in a body of so many instructions.
-pub(crate) fn place_after(place: usize, size: usize) -> usize
-    requires { place < size }
-    ensures { (j : ℕ) → place ≡ j % size → result ≡ (j + 1) % size }
-{
-    if place + 1 == size { 0 } else { place + 1 }
 }
 
 /// The first cycle in which the value of row k, at a place of the body, can be read.

@@ -11,8 +11,7 @@ loop-j-init g c =
     let run : Input = g.R.Rows.input c.args.rows.now in
     let t : Table = times (g.R.Rows.table c.args.rows.now) in
     record {
-      writers = c.none-writers.ensures run;
-      fences = c.none-fences.ensures run t;
+      older = c.none-older.ensures run t;
       size = ap length c.in_ok-waits.ensures.items;
       waits = λ j lt. absurd (omega (arith, lt));
     }
@@ -23,9 +22,8 @@ loop-j-preserved g c =
     let t : Table = times (g.R.Rows.table c.args.rows.now) in
     let old : List Waits = c.loop-j.waits.items in
     record {
-      writers = c.pass.ensures run (ap (λ r. r.rd) (sym c.instruction-b.ensures.row)) c.loop-j.invariant.writers;
-      fences = c.pass-in-loop-j.ensures run t (ap (λ r. r.kind) (sym c.instruction-b.ensures.row)) (ap (λ l. l.no_alias) (sym c.limits-no_alias.ensures)) (ap (λ r. r.issue) (sym c.times-times.ensures)) (ap (λ r. r.complete) (sym c.times-times.ensures)) c.loop-j.invariant.fences;
-      size = ap length c.in_ok-push.ensures.items ∙ length-append old (c.waits_of.result ∷ []) ∙ ap (λ n. n + 1) c.loop-j.invariant.size;
+      older = c.pass.ensures.older;
+      size = ap length c.in_ok-push.ensures.items ∙ length-append old (c.pass.result ∷ []) ∙ ap (λ n. n + 1) c.loop-j.invariant.size;
       waits = λ j lt. subst (λ l. AreWaits run t j (waits_at l j)) (sym c.in_ok-push.ensures.items)
-          (all_pushed (λ n w. AreWaits run t n w) old c.waits_of.result _ c.loop-j.j c.loop-j.invariant.size c.loop-j.invariant.waits c.waits_of.ensures j lt);
+          (all_pushed (λ n w. AreWaits run t n w) old c.pass.result _ c.loop-j.j c.loop-j.invariant.size c.loop-j.invariant.waits c.pass.ensures.waits j lt);
     }

@@ -1,15 +1,15 @@
-use Rattle.std.proofs.Common.{arith, ◌≡◌, ◌+◌, ◌∙◌, sym, ap, subst, get_or, ℕ}
+use Rattle.std.proofs.Common.{◌≡◌, ◌+◌, ◌∙◌, sym, ap, subst, get_or, ℕ}
 use Rattle.std.specs.Prelude.{max, min, if◌then◌else◌}
 use Rattle.cycle_rules.specs.Bind.{row_of}
 use Rattle.cycle_rules.specs.CycleBound.{max_below}
 use Rattle.cycle_rules.specs.Row.{Input, Table, no_times, times}
-use Rattle.cycle_rules.specs.Waits.{earliest, operands_at, memory_at}
+use Rattle.cycle_rules.specs.Waits.{earliest, operands_at}
 use Rattle.cycle_rules.specs.WaitTimes.{seen_from, by_phase, reads_time, pass_time, IsTimed}
 use Rattle.cycle_rules.proofs.WaitsTimed.{timed, phase_seen, phase_after}
 use Rattle.mca_views.specs.Past.{IsLatest}
 use Rattle.mca_views.specs.Shown.{Shown, shown, run_of}
 use Rattle.mca_views.proofs.Entries.{row_is, row_in}
-use Rattle.mca_views.proofs.past.Past.ready.Goals as goal
+use Rattle.mca_views.proofs.past.Past.memory_at.Goals as goal
 
 pub returns : goal.returns
 returns g c =
@@ -27,5 +27,4 @@ returns g c =
     let latest : IsLatest run t (run.row j).reserved j c.latest.result.now = subst (λ r. IsLatest run t r.reserved j c.latest.result.now) (sym is) (c.latest.ensures run t j c.requires.past) in
     let order : c.lets_go-order.result ≡ max_below j (pass_time run t (by_phase run t j) j) = c.lets_go-order.ensures run t j latest (ap (λ r. r.kind) (sym is)) (ap (λ l. l.no_alias) c.limits.ensures) in
     let operands : c.max-operands.result ≡ operands_at run t j = c.max-operands.ensures ∙ (λ i. max (first i) ((c.min.ensures ∙ (λ k. min (row k).issue (reads k))) i)) ∙ sym (law.operands j lt) in
-    let memory : c.max-memory.result ≡ memory_at run t j = c.max-memory.ensures ∙ (λ i. max (operands i) ((c.min-2.ensures ∙ (λ k. min (row k).issue (order k))) i)) ∙ sym (law.memory j lt) in
-    record { earliest = first; operands = operands; memory = memory; order = (omega (arith, c.max-operands.ensures), omega (arith, c.max-memory.ensures)) }
+    c.max.ensures ∙ (λ i. max (operands i) ((c.min-2.ensures ∙ (λ k. min (row k).issue (order k))) i)) ∙ sym (law.memory j lt)

@@ -6,7 +6,7 @@ use Rattle.dep_graph.specs.PassTimes.{reads_time}
 use Rattle.dep_graph.specs.Peaks.{IsLate}
 use Rattle.dep_graph.proofs.Reading.{register_is, memory_is}
 use Rattle.dep_graph.proofs.Timed.{ready_is}
-use Rattle.dep_graph.proofs.waits.waits_of.Goals as goal
+use Rattle.dep_graph.proofs.waits.Older.waits_of.Goals as goal
 
 pub returns : goal.returns
 returns g c =
@@ -18,5 +18,5 @@ returns g c =
       register = register_is run t c.args.j c.times-late.result c.until.result c.requires.run.run.each c.requires.row late (c.until.ensures.cycles ∙ ap (λ m. c.times-late.result.time - m) c.earliest-from.ensures) c.until.ensures.row;
       memory = memory_is run t c.args.j c.of_kind.result c.until-2.result c.max-ready.result c.requires.run.run.each c.requires.row
           (omega (arith, c.max-ready.ensures, c.earliest-from.ensures, late.time_is, ready))
-          (c.of_kind.ensures run t c.args.j (ap (λ r. r.kind) (sym c.instruction-b.ensures.row)) c.requires.fences) c.until-2.ensures.cycles c.until-2.ensures.row;
+          (c.of_kind.ensures run t c.args.j (ap (λ r. r.kind) (sym c.instruction-b.ensures.row)) c.requires.older.fences) c.until-2.ensures.cycles c.until-2.ensures.row;
     }
