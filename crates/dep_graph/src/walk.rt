@@ -1,5 +1,6 @@
 //! The rows of a run in program order, with what is kept of those before.
 ghost use Rattle.std.specs.Prelude.{◌≡◌, ◌<◌, ◌≤◌, ◌+◌, ◌^◌, ℕ, length, ◌||◌, nat_eq, nat_le};
+ghost use Rattle.cycle_rules.specs.Bind.{row_of};
 ghost use Rattle.cycle_rules.specs.Dispatch.{fits_file};
 ghost use Rattle.cycle_rules.specs.Row.{Input, Table, times};
 ghost use Rattle.dep_graph.specs.declared.window.Limited.TheVariants.{Registers};
@@ -11,6 +12,8 @@ use crate::counts::{Counts, Marks};
 use crate::fill::Fill;
 use crate::rows::Rows;
 use crate::window::{Limited, Window, uops};
+use cycle_rules::Bound;
+use rv_isa::Reg;
 
 /// What the rows that have gone by take of all that is limited.
 #[derive(Drop)]
@@ -71,22 +74,25 @@ impl Walk {
         let limits = rows.limits();
         let start = start_of(rows, j);
         let end = rows.times(j).dispatch;
-        let reserved = rows.instruction(j).reserved;
+        let b = rows.instruction(j);
         let marks = Marks {
-            group: fill_group(&mut self.fill, rows, j, start, end),
-            reorder: self.entries.take(rows, Limited::Entries, limits.reorder, j),
-            registers: take_registers(&mut self.registers, &mut self.files, rows, j),
-            loads: self.loads.take(rows, Limited::Loads, limits.loads, j),
-            stores: self.stores.take(rows, Limited::Stores, limits.stores, j),
+            group: fill_group(&mut self.fill, rows, b, j, start, end),
+            reorder: self
+                .entries
+                .take(rows, Limited::Entries, limits.reorder, b, j),
+            registers: take_registers(&mut self.registers, &mut self.files, rows, b, j),
+            loads: self.loads.take(rows, Limited::Loads, limits.loads, b, j),
+            stores: self.stores.take(rows, Limited::Stores, limits.stores, b, j),
         };
-        Counts::of_row(start, &marks, end, reserved)
+        Counts::of_row(start, &marks, end, b.reserved)
     }
 }
 
 // Goes on to the dispatch of row j, and gives the cycle from which on it found place in a group.
-fn fill_group<R: Rows>(fill: &mut Fill, rows: &R, j: usize, begin: u64, end: u64) -> u64
+fn fill_group<R: Rows>(fill: &mut Fill, rows: &R, b: &Bound, j: usize, begin: u64, end: u64) -> u64
     requires run { IsSoundRun (R.input rows.now) (R.table rows.now) }
     requires row { j < (R.input rows.now).rows }
+    requires instruction { row_of b.now ≡ (R.input rows.now).row j }
     requires begin { begin ≡ start (times (R.table rows.now)) j }
     requires end { end ≡ (times (R.table rows.now) j).dispatch }
     requires fill { IsFilled (R.input rows.now) (times (R.table rows.now)) j begin fill.old }
@@ -94,9 +100,9 @@ fn fill_group<R: Rows>(fill: &mut Fill, rows: &R, j: usize, begin: u64, end: u64
     ensures from { (c : ℕ) → begin ≤ c →
         condition (R.input rows.now) (times (R.table rows.now)) j c 0 ≡ nat_le result c }
 {
-    let b = rows.instruction(j);
-    let width = rows.limits().width;
-    let uops = uops(rows, j);
+    let limits = rows.limits();
+    let width = limits.width;
+    let uops = uops(limits.reorder, b);
     let from = fill.place_from(begin, width, uops, b.begins_group);
     fill.pass(width, end - begin);
     fill.join(uops, b.ends_group);
@@ -109,10 +115,12 @@ fn take_registers<R: Rows>(
     registers: &mut Window,
     files: &mut [Window; 8],
     rows: &R,
+    b: &Bound,
     j: usize,
 ) -> u64
     requires run { IsSoundRun (R.input rows.now) (R.table rows.now) }
     requires row { j < (R.input rows.now).rows }
+    requires instruction { row_of b.now ≡ (R.input rows.now).row j }
     requires window { IsWindow (R.input rows.now) Registers
         (R.input rows.now).machine.limits.registers j registers.old }
     requires files { AreFiles (R.input rows.now) j files.old }
@@ -123,21 +131,21 @@ fn take_registers<R: Rows>(
         condition (R.input rows.now) (times (R.table rows.now)) j c 2 ≡ nat_le result c }
 {
     let bound = rows.limits().registers;
-    let from = registers.take(rows, Limited::Registers, bound, j);
-    from.max(take_file(files, rows, j))
+    let from = registers.take(rows, Limited::Registers, bound, b, j);
+    from.max(take_file(files, rows, b.rd, j))
 }
 
 // Takes what row j takes of a register file, and gives the cycle from which on it found that.
-fn take_file<R: Rows>(files: &mut [Window; 8], rows: &R, j: usize) -> u64
+fn take_file<R: Rows>(files: &mut [Window; 8], rows: &R, rd: Reg, j: usize) -> u64
     requires run { IsSoundRun (R.input rows.now) (R.table rows.now) }
     requires row { j < (R.input rows.now).rows }
+    requires writes { rd ≡ ((R.input rows.now).row j).rd }
     requires files { AreFiles (R.input rows.now) j files.old }
     ensures files { AreFiles (R.input rows.now) (j + 1) files.new }
     ensures from { (c : ℕ) → (nat_eq ((R.input rows.now).row j).rd 0
         || fits_file (R.input rows.now) (times (R.table rows.now)) j c
         ((R.input rows.now).machine.file_of ((R.input rows.now).row j).rd)) ≡ nat_le result c }
 {
-    let rd = rows.instruction(j).rd;
     if rd.number() == 0 {
         return 0;
     }
@@ -146,8 +154,11 @@ fn take_file<R: Rows>(files: &mut [Window; 8], rows: &R, j: usize) -> u64
     };
     let f = share.file as usize;
     let bound = rows.file_size(f);
-    let mut window = files[f];
-    let from = window.take(rows, Limited::FileRegisters(share.file), bound, j);
-    files[f] = window;
-    from
+    files[f].take_weight(
+        rows,
+        Limited::FileRegisters(share.file),
+        bound,
+        share.cost,
+        j,
+    )
 }

@@ -1,6 +1,7 @@
 //! What the rows in flight take of something that is limited, and from which cycle on it leaves
 //! room.
 ghost use Rattle.std.specs.Prelude.{◌≡◌, ◌<◌, ◌≤◌, ◌+◌, ◌^◌, ℕ, List, length, nat_le, nat_lt, if◌then◌else◌};
+ghost use Rattle.cycle_rules.specs.Bind.{row_of};
 ghost use Rattle.cycle_rules.specs.Dispatch.{cost_of, cost_in};
 ghost use Rattle.cycle_rules.specs.Row.{Input, times, uops_of, is_load, is_store};
 ghost use Rattle.dep_graph.specs.declared.window.Limited.{Limited as LimitedOf};
@@ -8,6 +9,7 @@ ghost use Rattle.dep_graph.specs.Thresholds.{weight_from, last_retire, IsPointer
 ghost use Rattle.dep_graph.specs.Walk.{IsSoundRun, IsWindow, weight_of, is_enough};
 
 use crate::rows::Rows;
+use cycle_rules::Bound;
 use machine_model::FileShare;
 use rv_isa::{Kind, Reg};
 
@@ -84,25 +86,23 @@ fn cost_in<R: Rows>(rows: &R, file: u8, rd: Reg) -> u32
     cost_of(file, rows.file_of(rd))
 }
 
-/// The micro-ops of a row that count: no more than the reorder buffer holds.
+/// The micro-ops of the row of a bound instruction that count: no more than the reorder buffer holds.
 #[tactic(auto, unfolding(cycle_rules::specs::Row::uops_of))]
-pub fn uops<R: Rows>(rows: &R, j: usize) -> u32
-    requires row { j < (R.input rows.now).rows }
-    ensures { result ≡ uops_of (R.input rows.now) j }
+pub fn uops(reorder: u32, b: &Bound) -> u32
+    ensures { (g : Input) (j : ℕ) → row_of b.now ≡ g.row j →
+        g.machine.limits.reorder ≡ reorder → result ≡ uops_of g j }
 {
-    let b = rows.instruction(j);
     let uops = b.uops as u32;
-    uops.min(rows.limits().reorder)
+    uops.min(reorder)
 }
 
-/// What a row takes of something that is limited.
-pub fn weight<R: Rows>(rows: &R, what: Limited, j: usize) -> u32
-    requires row { j < (R.input rows.now).rows }
-    ensures { result ≡ weight_of (R.input rows.now) what j }
+/// What the row of a bound instruction takes of something that is limited.
+pub fn weight<R: Rows>(rows: &R, what: Limited, b: &Bound) -> u32
+    ensures { (j : ℕ) → row_of b.now ≡ (R.input rows.now).row j →
+        result ≡ weight_of (R.input rows.now) what j }
 {
-    let b = rows.instruction(j);
     match what {
-        Limited::Entries => uops(rows, j),
+        Limited::Entries => uops(rows.limits().reorder, b),
         Limited::Registers => registers(b.rd),
         Limited::Loads => loads(b.kind),
         Limited::Stores => stores(b.kind),
@@ -118,13 +118,37 @@ impl Window {
         Window { front: 0, held: 0 }
     }
 
-    /// Takes for row j what it takes of something, of which 0 for `bound` is no bound, and gives
-    /// the cycle from which on it found that; 0 where it takes nothing, or there is no bound.
-    pub fn take<R: Rows>(&mut self, rows: &R, what: Limited, bound: u32, j: usize) -> u64
+    /// Takes for row j, which is a bound instruction, what it takes of something, of which 0 for
+    /// `bound` is no bound, and gives the cycle from which on it found that; 0 where it takes
+    /// nothing, or there is no bound.
+    pub fn take<R: Rows>(&mut self, rows: &R, what: Limited, bound: u32, b: &Bound, j: usize) -> u64
         requires run { IsSoundRun (R.input rows.now) (R.table rows.now) }
         requires row { j < (R.input rows.now).rows }
+        requires instruction { row_of b.now ≡ (R.input rows.now).row j }
         requires window { IsWindow (R.input rows.now) what bound j self.old }
         requires fits { (bound ≡ 0 → ⊥) → weight_of (R.input rows.now) what j ≤ bound }
+        ensures window { IsWindow (R.input rows.now) what bound (j + 1) self.new }
+        ensures from { (c : ℕ) → is_enough (weight_of (R.input rows.now) what) bound
+            (times (R.table rows.now)) j c ≡ nat_le result c }
+    {
+        let more = weight(rows, what, b);
+        self.take_weight(rows, what, bound, more, j)
+    }
+
+    /// The same where it is known how much the row takes.
+    pub fn take_weight<R: Rows>(
+        &mut self,
+        rows: &R,
+        what: Limited,
+        bound: u32,
+        more: u32,
+        j: usize,
+    ) -> u64
+        requires run { IsSoundRun (R.input rows.now) (R.table rows.now) }
+        requires row { j < (R.input rows.now).rows }
+        requires more { more ≡ weight_of (R.input rows.now) what j }
+        requires window { IsWindow (R.input rows.now) what bound j self.old }
+        requires fits { (bound ≡ 0 → ⊥) → more ≤ bound }
         ensures window { IsWindow (R.input rows.now) what bound (j + 1) self.new }
         ensures from { (c : ℕ) → is_enough (weight_of (R.input rows.now) what) bound
             (times (R.table rows.now)) j c ≡ nat_le result c }
@@ -132,12 +156,11 @@ impl Window {
         if bound == 0 {
             return 0;
         }
-        let more = weight(rows, what, j) as u64;
         if more == 0 {
             return 0;
         }
-        self.advance(rows, what, bound as u64, more, j);
-        self.held += more;
+        self.advance(rows, what, bound as u64, more as u64, j);
+        self.held += more as u64;
         retired(rows, self.front)
     }
 
@@ -155,7 +178,7 @@ impl Window {
             self.new.front j }
     {
         while self.held + more > bound {
-            self.held -= weight(rows, what, self.front) as u64;
+            self.held -= weight(rows, what, rows.instruction(self.front)) as u64;
             self.front += 1;
         }
     }

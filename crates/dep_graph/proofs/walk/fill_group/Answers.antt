@@ -10,7 +10,7 @@ use Rattle.dep_graph.proofs.walk.fill_group.Goals as goal
 pub place_from-from-requires-clause-uops : goal.place_from-from-requires-clause-uops
 place_from-from-requires-clause-uops g c =
     let run : Input = g.R.Rows.input c.args.rows.now in
-    omega (arith, c.uops-uops.ensures, some_uops run c.args.j (c.requires.run.bound c.args.j c.requires.row).uops_low c.requires.run.limits.reorder_low)
+    omega (arith, (c.uops-uops.ensures run c.args.j c.requires.instruction (ap (λ l. l.reorder) (sym c.limits-limits.ensures))), some_uops run c.args.j (c.requires.run.bound c.args.j c.requires.row).uops_low c.requires.run.limits.reorder_low)
 
 pub place_from-from-requires-clause-early : goal.place_from-from-requires-clause-early
 place_from-from-requires-clause-early g c =
@@ -36,7 +36,7 @@ join-requires g c =
     let run : Input = g.R.Rows.input c.args.rows.now in
     let t : Table = times (g.R.Rows.table c.args.rows.now) in
     let le : c.args.begin ≤ c.args.end = omega (arith, c.requires.begin, c.requires.end, start_le run t c.args.j (c.requires.run.run.each c.args.j c.requires.row)) in
-    let passed : IsFilled run t c.args.j c.args.end c.pass.new.self = c.pass.ensures run t c.args.j c.args.begin c.args.end c.requires.fill (ap (λ l. l.width) (sym c.limits-width.ensures)) (omega (arith, le)) in
+    let passed : IsFilled run t c.args.j c.args.end c.pass.new.self = c.pass.ensures run t c.args.j c.args.begin c.args.end c.requires.fill (ap (λ l. l.width) (sym c.limits-limits.ensures)) (omega (arith, le)) in
     record { few = passed.few }
 
 pub returns-clause-fill : goal.returns-clause-fill
@@ -44,7 +44,7 @@ returns-clause-fill g c =
     let run : Input = g.R.Rows.input c.args.rows.now in
     let t : Table = times (g.R.Rows.table c.args.rows.now) in
     let le : c.args.begin ≤ c.args.end = omega (arith, c.requires.begin, c.requires.end, start_le run t c.args.j (c.requires.run.run.each c.args.j c.requires.row)) in
-    let passed : IsFilled run t c.args.j c.args.end c.pass.new.self = c.pass.ensures run t c.args.j c.args.begin c.args.end c.requires.fill (ap (λ l. l.width) (sym c.limits-width.ensures)) (omega (arith, le)) in
-    let some : 1 ≤ c.uops-uops.result = omega (arith, c.uops-uops.ensures, some_uops run c.args.j (c.requires.run.bound c.args.j c.requires.row).uops_low c.requires.run.limits.reorder_low) in
+    let passed : IsFilled run t c.args.j c.args.end c.pass.new.self = c.pass.ensures run t c.args.j c.args.begin c.args.end c.requires.fill (ap (λ l. l.width) (sym c.limits-limits.ensures)) (omega (arith, le)) in
+    let some : 1 ≤ c.uops-uops.result = omega (arith, (c.uops-uops.ensures run c.args.j c.requires.instruction (ap (λ l. l.reorder) (sym c.limits-limits.ensures))), some_uops run c.args.j (c.requires.run.bound c.args.j c.requires.row).uops_low c.requires.run.limits.reorder_low) in
     let fits : fits_group run t c.args.j c.args.end ≡ true = subst (λ e. fits_group run t c.args.j e ≡ true) (sym c.requires.end) (holds_at_dispatch run t c.args.j 0 c.requires.run.run.each c.requires.row (omega arith)) in
-    c.join.ensures run t c.args.j c.args.end passed c.requires.run.limits some (sym c.uops-uops.ensures) (ap (λ r. r.ends_group) (sym c.instruction-b.ensures.row)) (sym c.requires.end) fits
+    c.join.ensures run t c.args.j c.args.end passed c.requires.run.limits some (sym (c.uops-uops.ensures run c.args.j c.requires.instruction (ap (λ l. l.reorder) (sym c.limits-limits.ensures)))) (ap (λ r. r.ends_group) (sym c.requires.instruction)) (sym c.requires.end) fits

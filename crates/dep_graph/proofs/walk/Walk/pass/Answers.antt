@@ -87,8 +87,8 @@ returns-clause-counts g c =
     let h4 : (b : ℕ) → start t c.args.j ≤ b → condition run t c.args.j b 4 ≡ nat_le c.take-3.result b = λ b le.
     stores_enough run t c.args.j b ∙ ap (λ l. is_enough (weight_of run Stores) l.stores t c.args.j b) (sym c.limits-limits.ensures) ∙ c.take-3.ensures.from b in
     let from : Marks = record { group = c.fill_group.result; reorder = c.take.result; registers = c.take_registers.result; loads = c.take-2.result; stores = c.take-3.result } in
-    let is : (run.row c.args.j).reserved ≡ c.instruction.result.now.reserved = ap (λ r. r.reserved) (sym c.instruction.ensures.row) in
-    let at_start : AreOfRow (start t c.args.j) from c.times.result.now.dispatch c.instruction.result.now.reserved c.of_row.result =
-    subst (λ s. AreOfRow s from c.times.result.now.dispatch c.instruction.result.now.reserved c.of_row.result) c.start_of-start.ensures c.of_row.ensures in
-    row_stalls_are run t c.args.j from c.instruction.result.now.reserved c.of_row.result c.requires.run.run.each c.requires.row is h0 h1 h2 h3 h4
-    (subst (λ e. AreOfRow (start t c.args.j) from e c.instruction.result.now.reserved c.of_row.result) end at_start)
+    let is : (run.row c.args.j).reserved ≡ c.instruction-b.result.now.reserved = ap (λ r. r.reserved) (sym c.instruction-b.ensures.row) in
+    let at_start : AreOfRow (start t c.args.j) from c.times.result.now.dispatch c.instruction-b.result.now.reserved c.of_row.result =
+    subst (λ s. AreOfRow s from c.times.result.now.dispatch c.instruction-b.result.now.reserved c.of_row.result) c.start_of-start.ensures c.of_row.ensures in
+    row_stalls_are run t c.args.j from c.instruction-b.result.now.reserved c.of_row.result c.requires.run.run.each c.requires.row is h0 h1 h2 h3 h4
+    (subst (λ e. AreOfRow (start t c.args.j) from e c.instruction-b.result.now.reserved c.of_row.result) end at_start)

@@ -6,7 +6,7 @@ use Rattle.dep_graph.proofs.window.Window.advance.Goals as goal
 pub overflow_sub-self : goal.overflow_sub-self
 overflow_sub-self g c =
     let w : ℕ → ℕ = weight_of (g.R.Rows.input c.args.rows.now) c.args.what in
-    omega (arith, c.weight.ensures, (moved_next w c.args.bound c.args.more c.args.j c.loop-self.self.front c.loop-self.self.held c.loop-self.invariant c.requires.more c.loop-self-test.true).0)
+    omega (arith, (c.weight.ensures c.loop-self.self.front c.instruction.ensures.row), (moved_next w c.args.bound c.args.more c.args.j c.loop-self.self.front c.loop-self.self.held c.loop-self.invariant c.requires.more c.loop-self-test.true).0)
 
 pub overflow_add-self-in-loop-self : goal.overflow_add-self-in-loop-self
 overflow_add-self-in-loop-self g c =
@@ -21,5 +21,5 @@ loop-self-smaller g c =
 pub loop-self-preserved : goal.loop-self-preserved
 loop-self-preserved g c =
     let w : ℕ → ℕ = weight_of (g.R.Rows.input c.args.rows.now) c.args.what in
-    subst (λ x. IsMoved w c.args.bound c.args.more c.args.j (c.loop-self.self.front + 1) (c.loop-self.self.held - x)) (sym c.weight.ensures)
+    subst (λ x. IsMoved w c.args.bound c.args.more c.args.j (c.loop-self.self.front + 1) (c.loop-self.self.held - x)) (sym (c.weight.ensures c.loop-self.self.front c.instruction.ensures.row))
     (moved_next w c.args.bound c.args.more c.args.j c.loop-self.self.front c.loop-self.self.held c.loop-self.invariant c.requires.more c.loop-self-test.true).1
