@@ -28,7 +28,7 @@ fn most_left(is_open: bool, width: u64, uops: u64, begins: bool) -> u64
 }
 
 // In how many cycles so many micro-ops dispatch. Mostly there are none, since a row finds place at
-// once, and then no division is made: it is slow.
+// once, or they all dispatch in one, and then no division is made: it is slow.
 fn cycles_for(uops: u64, width: u64) -> u64
     requires width { 1 ≤ width }
     requires wide { width ≤ 64 }
@@ -37,6 +37,9 @@ fn cycles_for(uops: u64, width: u64) -> u64
 {
     if uops == 0 {
         return 0;
+    }
+    if uops <= width {
+        return 1;
     }
     (uops + width - 1) / width
 }
