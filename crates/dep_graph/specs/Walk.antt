@@ -64,6 +64,7 @@ pub record IsFilled (g : Input) (t : Table) (j a : ℕ) (fill : Fill) : Type 0 w
 
 -- what is kept when the rows older than row j have gone by
 pub record IsWalk (g : Input) (t : Table) (j : ℕ) (walk : Walk) : Type 0 where
+  pub begin : walk.start ≡ start t j
   pub fill : IsFilled g t j (start t j) walk.fill
   pub entries : IsWindow g Entries g.machine.limits.reorder j walk.entries
   pub registers : IsWindow g Registers g.machine.limits.registers j walk.registers

@@ -18,6 +18,8 @@ use rv_isa::Reg;
 /// What the rows that have gone by take of all that is limited.
 #[derive(Drop)]
 pub struct Walk {
+    /// The cycle in which the next row is the next to dispatch: that of the dispatch before it.
+    pub start: u64,
     pub fill: Fill,
     /// Of the reorder buffer.
     pub entries: Window,
@@ -37,23 +39,13 @@ fn empty_files() -> [Window; 8]
     [Window::empty(); 8]
 }
 
-/// The cycle in which row j is the next to dispatch: that of the dispatch before it.
-fn start_of<R: Rows>(rows: &R, j: usize) -> u64
-    requires { j ≤ length (R.table rows.now) }
-    ensures { result ≡ start (times (R.table rows.now)) j }
-{
-    if j == 0 {
-        return 0;
-    }
-    rows.times(j - 1).dispatch
-}
-
 impl Walk {
     /// Before the first row.
     pub fn empty() -> Walk
         ensures { (g : Input) (t : Table) → IsWalk g t 0 result }
     {
         Walk {
+            start: 0,
             fill: Fill::empty(),
             entries: Window::empty(),
             registers: Window::empty(),
@@ -72,7 +64,7 @@ impl Walk {
         ensures counts { result ≡ stalls_of (R.input rows.now) (times (R.table rows.now)) j }
     {
         let limits = rows.limits();
-        let start = start_of(rows, j);
+        let start = self.start;
         let end = rows.times(j).dispatch;
         let b = rows.instruction(j);
         let marks = Marks {
@@ -84,6 +76,7 @@ impl Walk {
             loads: self.loads.take(rows, Limited::Loads, limits.loads, b, j),
             stores: self.stores.take(rows, Limited::Stores, limits.stores, b, j),
         };
+        self.start = end;
         Counts::of_row(start, &marks, end, b.reserved)
     }
 }

@@ -86,7 +86,8 @@ fn cost_in<R: Rows>(rows: &R, file: u8, rd: Reg) -> u32
     cost_of(file, rows.file_of(rd))
 }
 
-/// The micro-ops of the row of a bound instruction that count: no more than the reorder buffer holds.
+/// The micro-ops of the row of a bound instruction that count: no more than the reorder buffer
+/// holds.
 #[tactic(auto, unfolding(cycle_rules::specs::Row::uops_of))]
 pub fn uops(reorder: u32, b: &Bound) -> u32
     ensures { (g : Input) (j : ℕ) → row_of b.now ≡ g.row j →

@@ -19,7 +19,7 @@ of_row-requires-clause-group g c =
     let run : Input = g.R.Rows.input c.args.rows.now in
     let t : Table = times (g.R.Rows.table c.args.rows.now) in
     let end : c.times.result.now.dispatch ≡ (t c.args.j).dispatch = ap (λ r. r.dispatch) c.times.ensures in
-    let h0 : (b : ℕ) → start t c.args.j ≤ b → condition run t c.args.j b 0 ≡ nat_le c.fill_group.result b = λ b le. c.fill_group.ensures.from b (omega (arith, le, c.start_of-start.ensures)) in
+    let h0 : (b : ℕ) → start t c.args.j ≤ b → condition run t c.args.j b 0 ≡ nat_le c.fill_group.result b = λ b le. c.fill_group.ensures.from b (omega (arith, le, c.requires.walk.begin)) in
     omega (arith, mark_low run t c.args.j 0 c.fill_group.result c.requires.run.run.each c.requires.row (omega arith) h0, end)
 
 pub of_row-requires-clause-reorder : goal.of_row-requires-clause-reorder
@@ -64,6 +64,7 @@ returns-clause-walk g c =
     let t : Table = times (g.R.Rows.table c.args.rows.now) in
     let end : c.times.result.now.dispatch ≡ (t c.args.j).dispatch = ap (λ r. r.dispatch) c.times.ensures in
     record {
+      begin = end ∙ next_start t c.args.j;
       fill = subst (λ e. IsFilled run t (c.args.j + 1) e c.fill_group.new.fill) (end ∙ next_start t c.args.j) c.fill_group.ensures.fill;
       entries = subst (λ l. IsWindow run Entries l.reorder (c.args.j + 1) c.take.new.self) c.limits-limits.ensures c.take.ensures.window;
       registers = c.take_registers.ensures.window;
@@ -77,7 +78,7 @@ returns-clause-counts g c =
     let run : Input = g.R.Rows.input c.args.rows.now in
     let t : Table = times (g.R.Rows.table c.args.rows.now) in
     let end : c.times.result.now.dispatch ≡ (t c.args.j).dispatch = ap (λ r. r.dispatch) c.times.ensures in
-    let h0 : (b : ℕ) → start t c.args.j ≤ b → condition run t c.args.j b 0 ≡ nat_le c.fill_group.result b = λ b le. c.fill_group.ensures.from b (omega (arith, le, c.start_of-start.ensures)) in
+    let h0 : (b : ℕ) → start t c.args.j ≤ b → condition run t c.args.j b 0 ≡ nat_le c.fill_group.result b = λ b le. c.fill_group.ensures.from b (omega (arith, le, c.requires.walk.begin)) in
     let h1 : (b : ℕ) → start t c.args.j ≤ b → condition run t c.args.j b 1 ≡ nat_le c.take.result b = λ b le.
     reorder_enough run t c.args.j b c.requires.run.limits.reorder_low (some_uops run c.args.j (c.requires.run.bound c.args.j c.requires.row).uops_low c.requires.run.limits.reorder_low)
     ∙ ap (λ l. is_enough (weight_of run Entries) l.reorder t c.args.j b) (sym c.limits-limits.ensures) ∙ c.take.ensures.from b in
@@ -89,6 +90,6 @@ returns-clause-counts g c =
     let from : Marks = record { group = c.fill_group.result; reorder = c.take.result; registers = c.take_registers.result; loads = c.take-2.result; stores = c.take-3.result } in
     let is : (run.row c.args.j).reserved ≡ c.instruction-b.result.now.reserved = ap (λ r. r.reserved) (sym c.instruction-b.ensures.row) in
     let at_start : AreOfRow (start t c.args.j) from c.times.result.now.dispatch c.instruction-b.result.now.reserved c.of_row.result =
-    subst (λ s. AreOfRow s from c.times.result.now.dispatch c.instruction-b.result.now.reserved c.of_row.result) c.start_of-start.ensures c.of_row.ensures in
+    subst (λ s. AreOfRow s from c.times.result.now.dispatch c.instruction-b.result.now.reserved c.of_row.result) c.requires.walk.begin c.of_row.ensures in
     row_stalls_are run t c.args.j from c.instruction-b.result.now.reserved c.of_row.result c.requires.run.run.each c.requires.row is h0 h1 h2 h3 h4
     (subst (λ e. AreOfRow (start t c.args.j) from e c.instruction-b.result.now.reserved c.of_row.result) end at_start)
