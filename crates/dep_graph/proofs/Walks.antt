@@ -13,7 +13,7 @@ use Rattle.cycle_rules.specs.Dispatch.{has_room, is_held, cost_in, fits_file, fi
 use Rattle.cycle_rules.specs.Retire.{can_retire}
 use Rattle.cycle_rules.specs.Run.{IsRow}
 use Rattle.dep_graph.specs.Stalls.{condition, holds, stalls_by, stalls}
-use Rattle.dep_graph.specs.Thresholds.{start, span, mark, row_stalls}
+use Rattle.dep_graph.specs.Thresholds.{start, span, counted, mark, row_stalls}
 use Rattle.dep_graph.specs.RowCounts.{AreOfRow, listed, total, both}
 use Rattle.dep_graph.specs.Walk.{IsWindow, AreFiles, window_at, weight_of, is_enough, stalls_of, sums_of}
 use Rattle.dep_graph.specs.declared.counts.Counts.{Counts}
@@ -227,6 +227,20 @@ sums_none g t = refl
 pub sums_more : (g : Input) (t : Table) (j : ℕ) → both (sums_of g t j) (stalls_of g t j) ≡ sums_of g t (j + 1)
 unfolding sum_below
 sums_more g t j = let e : suc j ≡ j + 1 = omega arith in ap (sums_of g t) e
+
+-- a row that dispatches as soon as it is the next one has none
+pub sums_same : (g : Input) (t : Table) (j : ℕ) → (t j).dispatch ≡ start t j → sums_of g t j ≡ sums_of g t (j + 1)
+unfolding sum_below count_below
+sums_same g t j is = (λ i. record { group = same 0 i; reorder = same 1 i; registers = same 2 i; loads = same 3 i; stores = same 4 i; buffers = same 5 i; reserved = same 6 i }) ∙ ap (sums_of g t) next
+  where
+    next : suc j ≡ j + 1
+    next = omega arith
+
+    none : (k : ℕ) → row_stalls g t k j ≡ 0
+    none k = let e : span t j ≡ 0 = omega (arith, is) in ap (λ n. counted (start t j) n (holds g t j) k) e
+
+    same : (k : ℕ) → sum_below j (row_stalls g t k) ≡ sum_below j (row_stalls g t k) + row_stalls g t k j
+    same k = omega (arith, none k)
 
 seven : (f : ℕ → ℕ) → f 0 + f 1 + f 2 + f 3 + f 4 + f 5 + f 6 ≡ sum_below 7 f
 unfolding sum_below

@@ -43,8 +43,7 @@ fn count<R: Rows>(rows: &R) -> Counts
     let mut walk = Walk::empty();
     let mut counts = Counts::none();
     for j in 0..rows.count() {
-        let row = walk.pass(rows, j);
-        counts.add(&row);
+        walk.pass(rows, j, &mut counts);
     }
     counts
 }

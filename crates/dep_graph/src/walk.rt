@@ -6,7 +6,7 @@ ghost use Rattle.cycle_rules.specs.Row.{Input, Table, times};
 ghost use Rattle.dep_graph.specs.declared.window.Limited.TheVariants.{Registers};
 ghost use Rattle.dep_graph.specs.Stalls.{condition};
 ghost use Rattle.dep_graph.specs.Thresholds.{start};
-ghost use Rattle.dep_graph.specs.Walk.{IsSoundRun, IsWindow, IsFilled, AreFiles, IsWalk, stalls_of};
+ghost use Rattle.dep_graph.specs.Walk.{IsSoundRun, IsWindow, IsFilled, AreFiles, IsWalk, stalls_of, sums_of};
 
 use crate::counts::{Counts, Marks};
 use crate::fill::Fill;
@@ -55,8 +55,46 @@ impl Walk {
         }
     }
 
-    /// Lets row j go by, and gives its stalls.
-    pub fn pass<R: Rows>(&mut self, rows: &R, j: usize) -> Counts
+    /// Lets row j go by, and counts its stalls: there are none where it dispatches as soon as it is
+    /// the next one, as most rows do.
+    pub fn pass<R: Rows>(&mut self, rows: &R, j: usize, counts: &mut Counts)
+        requires run { IsSoundRun (R.input rows.now) (R.table rows.now) }
+        requires row { j < (R.input rows.now).rows }
+        requires walk { IsWalk (R.input rows.now) (times (R.table rows.now)) j self.old }
+        requires counts { counts.old ≡ sums_of (R.input rows.now) (times (R.table rows.now)) j }
+        ensures walk { IsWalk (R.input rows.now) (times (R.table rows.now)) (j + 1) self.new }
+        ensures counts { counts.new ≡ sums_of (R.input rows.now) (times (R.table rows.now))
+            (j + 1) }
+    {
+        if rows.times(j).dispatch == self.start {
+            self.pass_at_once(rows, j);
+            return;
+        }
+        let row = self.pass_later(rows, j);
+        counts.add(&row);
+    }
+
+    // Lets row j go by, which dispatches as soon as it is the next one.
+    fn pass_at_once<R: Rows>(&mut self, rows: &R, j: usize)
+        requires run { IsSoundRun (R.input rows.now) (R.table rows.now) }
+        requires row { j < (R.input rows.now).rows }
+        requires walk { IsWalk (R.input rows.now) (times (R.table rows.now)) j self.old }
+        requires at_once { (times (R.table rows.now) j).dispatch
+            ≡ start (times (R.table rows.now)) j }
+        ensures walk { IsWalk (R.input rows.now) (times (R.table rows.now)) (j + 1) self.new }
+    {
+        let limits = rows.limits();
+        let b = rows.instruction(j);
+        self.fill.join(uops(limits.reorder, b), b.ends_group);
+        self.entries
+            .take(rows, Limited::Entries, limits.reorder, b, j);
+        take_registers(&mut self.registers, &mut self.files, rows, b, j);
+        self.loads.take(rows, Limited::Loads, limits.loads, b, j);
+        self.stores.take(rows, Limited::Stores, limits.stores, b, j);
+    }
+
+    // Lets row j go by, and gives its stalls.
+    fn pass_later<R: Rows>(&mut self, rows: &R, j: usize) -> Counts
         requires run { IsSoundRun (R.input rows.now) (R.table rows.now) }
         requires row { j < (R.input rows.now).rows }
         requires walk { IsWalk (R.input rows.now) (times (R.table rows.now)) j self.old }
