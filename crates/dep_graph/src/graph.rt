@@ -8,10 +8,11 @@ ghost use Rattle.dep_graph.specs.Blamed.{edges_along};
 ghost use Rattle.dep_graph.specs.Peaks.{AreWaits, waits_at};
 ghost use Rattle.dep_graph.specs.RunGraph.{IsGraphOf, IsIssueOrder};
 ghost use Rattle.dep_graph.specs.Taking.{IsTaking, wait_edge};
+ghost use Rattle.dep_graph.specs.Turns.{AreSlots};
 ghost use Rattle.dep_graph.specs.Walk.{IsSoundRun};
 
 use crate::holders::Taker;
-use crate::order::issue_order;
+use crate::order::{IssueOrder, issue_order};
 use crate::rows::{Rows, Run};
 use crate::unit_waits::unit_wait;
 use crate::waits::{Wait, Waits, all_waits};
@@ -61,9 +62,9 @@ fn graph_of<M: Machine, R: Rows>(alloc: Global, machine: &M, rows: &R) -> Result
         graph) }
     ensures graph { IfOk result (λ graph. IsGraph graph) }
 {
-    let order = issue_order(alloc, rows)?;
+    let IssueOrder { order, slots } = issue_order(alloc, rows)?;
     let waits = all_waits(alloc, rows)?;
-    let edges = all_edges(alloc, machine, rows, &order, &waits)?;
+    let edges = all_edges(alloc, machine, rows, &order, &slots, &waits)?;
     Ok(Graph {
         rows: rows.count() as u32,
         order: Items::from_vec(order),
@@ -93,11 +94,13 @@ fn all_edges<M: Machine, R: Rows>(
     machine: &M,
     rows: &R,
     order: &[u32],
+    slots: &[u64],
     waits: &[Waits],
 ) -> Result<Vec<Edge>, NoMemory>
     requires run { IsSoundRun (R.input rows.now) (R.table rows.now) }
     requires machine { M.meaning machine.now ≡ (R.input rows.now).machine }
     requires order { IsIssueOrder (R.input rows.now) (times (R.table rows.now)) order.now }
+    requires slots { AreSlots (R.input rows.now) (times (R.table rows.now)) slots.now }
     requires size { length waits.now ≡ (R.input rows.now).rows }
     requires waits { (j : ℕ) → j < (R.input rows.now).rows →
         AreWaits (R.input rows.now) (times (R.table rows.now)) j (waits_at waits.now j) }
@@ -106,7 +109,9 @@ fn all_edges<M: Machine, R: Rows>(
 {
     let mut units = Units::make(alloc, machine)?;
     let mut last = vec![in alloc; Taker { place: 0, until: 0 }; M::UNITS]?;
-    edges_in_order(alloc, machine, rows, &mut units, &mut last, order, waits)
+    edges_in_order(
+        alloc, machine, rows, &mut units, &mut last, order, slots, waits,
+    )
 }
 
 // The same, with what is kept of the units, of which none has been taken.
@@ -117,11 +122,13 @@ fn edges_in_order<M: Machine, R: Rows>(
     units: &mut Units<M>,
     last: &mut [Taker],
     order: &[u32],
+    slots: &[u64],
     waits: &[Waits],
 ) -> Result<Vec<Edge>, NoMemory>
     requires run { IsSoundRun (R.input rows.now) (R.table rows.now) }
     requires machine { M.meaning machine.now ≡ (R.input rows.now).machine }
     requires order { IsIssueOrder (R.input rows.now) (times (R.table rows.now)) order.now }
+    requires slots { AreSlots (R.input rows.now) (times (R.table rows.now)) slots.now }
     requires size { length waits.now ≡ (R.input rows.now).rows }
     requires waits { (j : ℕ) → j < (R.input rows.now).rows →
         AreWaits (R.input rows.now) (times (R.table rows.now)) j (waits_at waits.now j) }
@@ -137,7 +144,9 @@ fn edges_in_order<M: Machine, R: Rows>(
         let before = waits[row as usize];
         push_wait(&mut edges, EdgeKind::Register, row, before.register)?;
         push_wait(&mut edges, EdgeKind::Memory, row, before.memory)?;
-        let wait = unit_wait(machine, rows, units, last, order, &mut taken, i, before);
+        let wait = unit_wait(
+            machine, rows, units, last, order, slots, &mut taken, i, before,
+        );
         push_wait(&mut edges, EdgeKind::Resource, row, wait)?;
     }
     Ok(edges)

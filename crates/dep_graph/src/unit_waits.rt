@@ -9,54 +9,45 @@ ghost use Rattle.dep_graph.specs.Blamed.{edge_of, resource_blamed};
 ghost use Rattle.dep_graph.specs.Holders.{AreHolders, taken_along};
 ghost use Rattle.dep_graph.specs.Peaks.{AreWaits};
 ghost use Rattle.dep_graph.specs.RunGraph.{IsIssueOrder};
-ghost use Rattle.dep_graph.specs.Taking.{IsTaking, AreFirst, asks_after, wait_edge};
+ghost use Rattle.dep_graph.specs.Taking.{IsTaking, AreFirst, wait_edge};
+ghost use Rattle.dep_graph.specs.Turns.{AreRows, AreSlots, is_before_slot};
 ghost use Rattle.dep_graph.specs.Walk.{IsSoundRun};
 
 use crate::holders::{Taker, first_busy, last_holder, take_row};
-use crate::order::{phase, precedes};
 use crate::rows::Rows;
 use crate::waits::{Wait, Waits, earliest};
 use machine_model::Machine;
 use resource_units::Units;
 
-// Whether there is a row at a place of the order, which issues before the one at another place
-// looks for units in vain.
-fn issues_before<R: Rows>(rows: &R, order: &[u32], q: usize, i: usize) -> bool
-    requires run { IsSoundRun (R.input rows.now) (R.table rows.now) }
-    requires order { IsIssueOrder (R.input rows.now) (times (R.table rows.now)) order.now }
-    requires place { i < length order.now }
-    requires some { 0 < (times (R.table rows.now) (slice_index order.now i)).issue }
-    ensures { result ≡ (nat_lt q (R.input rows.now).rows && asks_after
-        (R.input rows.now) (times (R.table rows.now)) (slice_index order.now q)
-        (slice_index order.now i)) }
+// Whether there is a row at a place of the order, which issues before a slot, or in it and before
+// row j.
+fn issues_before(slots: &[u64], order: &[u32], q: usize, slot: u64, j: u32) -> bool
+    requires { AreRows (length slots.now) order.now }
+    ensures { result ≡ (nat_lt q (length order.now) && is_before_slot slots.now
+        (slice_index order.now q) slot j) }
 {
     if q >= order.len() {
         return false;
     }
-    let k = order[q] as usize;
-    let j = order[i] as usize;
-    precedes(
-        rows.times(k).issue,
-        phase(rows.instruction(k).reserved),
-        k as u32,
-        rows.times(j).issue - 1,
-        phase(rows.instruction(j).reserved),
-        j as u32,
-    )
+    let k = order[q];
+    let issue = slots[k as usize];
+    issue < slot || (issue == slot && k < j)
 }
 
 // Lets the rows take their units that issue before the one at a place of the order looks for units
-// in vain.
+// in vain, in the cycle before that of its issue.
 fn take_before<M: Machine, R: Rows>(
     rows: &R,
     units: &mut Units<M>,
     last: &mut [Taker],
     order: &[u32],
+    slots: &[u64],
     taken: &mut usize,
     i: usize,
 )
     requires run { IsSoundRun (R.input rows.now) (R.table rows.now) }
     requires order { IsIssueOrder (R.input rows.now) (times (R.table rows.now)) order.now }
+    requires slots { AreSlots (R.input rows.now) (times (R.table rows.now)) slots.now }
     requires place { i < length order.now }
     requires some { 0 < (times (R.table rows.now) (slice_index order.now i)).issue }
     requires taking { IsTaking M.meaning M.Mask.holds (R.input rows.now) (times (R.table rows.now))
@@ -67,7 +58,9 @@ fn take_before<M: Machine, R: Rows>(
         (phase ((R.input rows.now).row (slice_index order.now i))) (slice_index order.now i)
         ((times (R.table rows.now) (slice_index order.now i)).issue - 1) }
 {
-    while issues_before(rows, order, *taken, i) {
+    let j = order[i];
+    let slot = slots[j as usize] - 2;
+    while issues_before(slots, order, *taken, slot, j) {
         take_row(rows, units, last, order, *taken);
         *taken += 1;
     }
@@ -126,12 +119,14 @@ pub fn unit_wait<M: Machine, R: Rows>(
     units: &mut Units<M>,
     last: &mut [Taker],
     order: &[u32],
+    slots: &[u64],
     taken: &mut usize,
     i: usize,
     waits: Waits,
 ) -> Wait
     requires run { IsSoundRun (R.input rows.now) (R.table rows.now) }
     requires order { IsIssueOrder (R.input rows.now) (times (R.table rows.now)) order.now }
+    requires slots { AreSlots (R.input rows.now) (times (R.table rows.now)) slots.now }
     requires place { i < length order.now }
     requires machine { M.meaning machine.now ≡ (R.input rows.now).machine }
     requires waits { AreWaits (R.input rows.now) (times (R.table rows.now))
@@ -151,7 +146,7 @@ pub fn unit_wait<M: Machine, R: Rows>(
     if ordered == issue {
         return wait_for(0, None);
     }
-    take_before(rows, units, last, order, taken, i);
+    take_before(rows, units, last, order, slots, taken, i);
     units.release_until(issue - 1);
     wait_for(
         issue - ordered,

@@ -10,8 +10,8 @@ pub returns-clause-graph : goal.returns-clause-graph
 returns-clause-graph g c =
     let run : Input = g.R.Rows.input c.args.rows.now in
     let t : Table = times (g.R.Rows.table c.args.rows.now) in
-    let order : List ℕ = c.in_ok-order.order.items in
-    let is : IsIssueOrder run t order = c.in_ok-order.ensures in
+    let order : List ℕ = c.in_ok-order.field-0.order.items in
+    let is : IsIssueOrder run t order = c.in_ok-order.ensures.order in
     let edges : c.from_vec-2.result ≡ edges_along run t order = c.from_vec-2.ensures ∙ c.in_ok-edges.ensures ∙ ap (edges_along run t) c.deref.ensures.value in
     let all : AreForward run.rows (place order) (edges_along run t order) = edges_forward run t order is c.requires.run.run.each in
     record {
