@@ -1,5 +1,5 @@
 //! The waits of rows for units.
-ghost use Rattle.std.specs.Prelude.{◌≡◌, ◌<◌, ◌≤◌, ◌+◌, ◌-◌, ℕ, length, slice_index, ◌&&◌, nat_lt};
+ghost use Rattle.std.specs.Prelude.{◌≡◌, ◌<◌, ◌≤◌, ◌+◌, ◌-◌, ◌*◌, ◌^◌, ℕ, length, slice_index, Bool, ◌&&◌, nat_lt, if◌then◌else◌};
 ghost use Rattle.cycle_rules.specs.Row.{times, phase};
 ghost use Rattle.cycle_rules.specs.Waits.{resource_wait};
 ghost use Rattle.critical_chain.specs.declared.graph.EdgeKind.{EdgeKind as EdgeKindOf};
@@ -15,7 +15,7 @@ ghost use Rattle.dep_graph.specs.Walk.{IsSoundRun};
 
 use crate::holders::{Taker, first_busy, last_holder, take_row};
 use crate::rows::Rows;
-use crate::waits::{Wait, Waits, earliest};
+use crate::waits::{Wait, Waits};
 use machine_model::Machine;
 use resource_units::Units;
 
@@ -102,6 +102,16 @@ fn blamed<M: Machine, R: Rows>(
     Some(order[place as usize])
 }
 
+// The first cycle in which a row may issue at all, by the slot in which it issues: a reserved row, to
+// which a second slot belongs, as it dispatches, and others in the cycle after.
+fn earliest(dispatch: u64, slot: u64) -> u64
+    requires { dispatch < 2 ^ 42 }
+    ensures { (cycle : ℕ) (reserved : Bool) → slot ≡ 2 * cycle + (if reserved then 1 else 0) →
+        result ≡ (if reserved then dispatch else dispatch + 1) }
+{
+    dispatch + 1 - slot % 2
+}
+
 // A wait, where some row is blamed for it.
 fn wait_for(cycles: u64, row: Option<u32>) -> Wait
     ensures { (kind : EdgeKindOf) (j : ℕ) → edge_of kind cycles j row ≡ wait_edge kind j result }
@@ -141,8 +151,10 @@ pub fn unit_wait<M: Machine, R: Rows>(
         ≡ wait_edge Resource (slice_index order.now i) result }
 {
     let j = order[i] as usize;
-    let issue = rows.times(j).issue;
-    let ordered = earliest(rows, j) + waits.register.cycles + waits.memory.cycles;
+    let times = rows.times(j);
+    let issue = times.issue;
+    let from = earliest(times.dispatch, slots[j]);
+    let ordered = from + waits.register.cycles + waits.memory.cycles;
     if ordered == issue {
         return wait_for(0, None);
     }

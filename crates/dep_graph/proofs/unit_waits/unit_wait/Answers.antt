@@ -1,8 +1,8 @@
 use Rattle.std.proofs.Common.{◌≡◌, ◌<◌, ◌≤◌, ◌+◌, ◌-◌, ℕ, arith, sym, ◌∙◌, ap, subst}
-use Rattle.std.specs.Prelude.{slice_index}
+use Rattle.std.specs.Prelude.{slice_index, if◌then◌else◌}
 use Rattle.critical_chain.specs.declared.graph.EdgeKind.TheVariants.{Resource}
 use Rattle.cycle_rules.specs.Row.{Input, Table, times}
-use Rattle.cycle_rules.specs.Waits.{memory_at, resource_wait}
+use Rattle.cycle_rules.specs.Waits.{earliest, memory_at, resource_wait}
 use Rattle.resource_units.specs.Stand.{StandsFor}
 use Rattle.dep_graph.specs.Blamed.{edge_of, resource_blamed}
 use Rattle.dep_graph.specs.Holders.{taken_along}
@@ -20,8 +20,9 @@ overflow_add-ordered g c =
     let lj : j < run.rows = c.requires.order.all.below c.args.i li in
     let waits = waits_sum run t j c.requires.run.run.each lj in
     let early = issue_early run t j c.requires.run.run.each lj in
-    let cycle : c.times.result.now.issue ≡ (t j).issue = ap (λ r. r.issue) c.times.ensures in
-    let ordered : c.earliest.result + c.args.waits.register.cycles + c.args.waits.memory.cycles ≡ memory_at run t j = omega (arith, c.earliest.ensures, c.requires.waits.register.is, c.requires.waits.memory.is, waits.0, waits.1) in
+    let cycle : c.times-times.result.now.issue ≡ (t j).issue = ap (λ r. r.issue) c.times-times.ensures in
+    let from : c.earliest-from.result ≡ earliest run t j = c.earliest-from.ensures (t j).issue (run.row j).reserved (c.requires.slots.each j lj) ∙ ap (λ r. if (run.row j).reserved then r.dispatch else r.dispatch + 1) c.times-times.ensures in
+    let ordered : c.earliest-from.result + c.args.waits.register.cycles + c.args.waits.memory.cycles ≡ memory_at run t j = omega (arith, from, c.requires.waits.register.is, c.requires.waits.memory.is, waits.0, waits.1) in
     omega (arith, ordered, waits.2, early.1, early.2, c.requires.run.early j lj)
 
 pub overflow_add-ordered-2 : goal.overflow_add-ordered-2
@@ -33,8 +34,9 @@ overflow_add-ordered-2 g c =
     let lj : j < run.rows = c.requires.order.all.below c.args.i li in
     let waits = waits_sum run t j c.requires.run.run.each lj in
     let early = issue_early run t j c.requires.run.run.each lj in
-    let cycle : c.times.result.now.issue ≡ (t j).issue = ap (λ r. r.issue) c.times.ensures in
-    let ordered : c.earliest.result + c.args.waits.register.cycles + c.args.waits.memory.cycles ≡ memory_at run t j = omega (arith, c.earliest.ensures, c.requires.waits.register.is, c.requires.waits.memory.is, waits.0, waits.1) in
+    let cycle : c.times-times.result.now.issue ≡ (t j).issue = ap (λ r. r.issue) c.times-times.ensures in
+    let from : c.earliest-from.result ≡ earliest run t j = c.earliest-from.ensures (t j).issue (run.row j).reserved (c.requires.slots.each j lj) ∙ ap (λ r. if (run.row j).reserved then r.dispatch else r.dispatch + 1) c.times-times.ensures in
+    let ordered : c.earliest-from.result + c.args.waits.register.cycles + c.args.waits.memory.cycles ≡ memory_at run t j = omega (arith, from, c.requires.waits.register.is, c.requires.waits.memory.is, waits.0, waits.1) in
     omega (arith, ordered, waits.2, early.1, early.2, c.requires.run.early j lj)
 
 pub returns-then-ordered-issue-clause-wait : goal.returns-then-ordered-issue-clause-wait
@@ -46,8 +48,9 @@ returns-then-ordered-issue-clause-wait g c =
     let lj : j < run.rows = c.requires.order.all.below c.args.i li in
     let waits = waits_sum run t j c.requires.run.run.each lj in
     let early = issue_early run t j c.requires.run.run.each lj in
-    let cycle : c.times.result.now.issue ≡ (t j).issue = ap (λ r. r.issue) c.times.ensures in
-    let ordered : c.earliest.result + c.args.waits.register.cycles + c.args.waits.memory.cycles ≡ memory_at run t j = omega (arith, c.earliest.ensures, c.requires.waits.register.is, c.requires.waits.memory.is, waits.0, waits.1) in
+    let cycle : c.times-times.result.now.issue ≡ (t j).issue = ap (λ r. r.issue) c.times-times.ensures in
+    let from : c.earliest-from.result ≡ earliest run t j = c.earliest-from.ensures (t j).issue (run.row j).reserved (c.requires.slots.each j lj) ∙ ap (λ r. if (run.row j).reserved then r.dispatch else r.dispatch + 1) c.times-times.ensures in
+    let ordered : c.earliest-from.result + c.args.waits.register.cycles + c.args.waits.memory.cycles ≡ memory_at run t j = omega (arith, from, c.requires.waits.register.is, c.requires.waits.memory.is, waits.0, waits.1) in
     let none : resource_wait run t j ≡ 0 = omega (arith, c.if-ordered-issue.true, ordered, cycle) in
     ap (λ n. edge_of Resource n j (resource_blamed run t j)) none ∙ c.wait_for.ensures Resource j
 
@@ -60,8 +63,9 @@ take_before-requires-clause-some g c =
     let lj : j < run.rows = c.requires.order.all.below c.args.i li in
     let waits = waits_sum run t j c.requires.run.run.each lj in
     let early = issue_early run t j c.requires.run.run.each lj in
-    let cycle : c.times.result.now.issue ≡ (t j).issue = ap (λ r. r.issue) c.times.ensures in
-    let ordered : c.earliest.result + c.args.waits.register.cycles + c.args.waits.memory.cycles ≡ memory_at run t j = omega (arith, c.earliest.ensures, c.requires.waits.register.is, c.requires.waits.memory.is, waits.0, waits.1) in
+    let cycle : c.times-times.result.now.issue ≡ (t j).issue = ap (λ r. r.issue) c.times-times.ensures in
+    let from : c.earliest-from.result ≡ earliest run t j = c.earliest-from.ensures (t j).issue (run.row j).reserved (c.requires.slots.each j lj) ∙ ap (λ r. if (run.row j).reserved then r.dispatch else r.dispatch + 1) c.times-times.ensures in
+    let ordered : c.earliest-from.result + c.args.waits.register.cycles + c.args.waits.memory.cycles ≡ memory_at run t j = omega (arith, from, c.requires.waits.register.is, c.requires.waits.memory.is, waits.0, waits.1) in
     let some : 0 < (t j).issue = omega (arith, c.if-ordered-issue.false, ordered, cycle, waits.2) in
     some
 
@@ -74,8 +78,9 @@ overflow_sub-issue g c =
     let lj : j < run.rows = c.requires.order.all.below c.args.i li in
     let waits = waits_sum run t j c.requires.run.run.each lj in
     let early = issue_early run t j c.requires.run.run.each lj in
-    let cycle : c.times.result.now.issue ≡ (t j).issue = ap (λ r. r.issue) c.times.ensures in
-    let ordered : c.earliest.result + c.args.waits.register.cycles + c.args.waits.memory.cycles ≡ memory_at run t j = omega (arith, c.earliest.ensures, c.requires.waits.register.is, c.requires.waits.memory.is, waits.0, waits.1) in
+    let cycle : c.times-times.result.now.issue ≡ (t j).issue = ap (λ r. r.issue) c.times-times.ensures in
+    let from : c.earliest-from.result ≡ earliest run t j = c.earliest-from.ensures (t j).issue (run.row j).reserved (c.requires.slots.each j lj) ∙ ap (λ r. if (run.row j).reserved then r.dispatch else r.dispatch + 1) c.times-times.ensures in
+    let ordered : c.earliest-from.result + c.args.waits.register.cycles + c.args.waits.memory.cycles ≡ memory_at run t j = omega (arith, from, c.requires.waits.register.is, c.requires.waits.memory.is, waits.0, waits.1) in
     let some : 0 < (t j).issue = omega (arith, c.if-ordered-issue.false, ordered, cycle, waits.2) in
     omega (arith, some, cycle)
 
@@ -88,8 +93,9 @@ release_until-requires g c =
     let lj : j < run.rows = c.requires.order.all.below c.args.i li in
     let waits = waits_sum run t j c.requires.run.run.each lj in
     let early = issue_early run t j c.requires.run.run.each lj in
-    let cycle : c.times.result.now.issue ≡ (t j).issue = ap (λ r. r.issue) c.times.ensures in
-    let ordered : c.earliest.result + c.args.waits.register.cycles + c.args.waits.memory.cycles ≡ memory_at run t j = omega (arith, c.earliest.ensures, c.requires.waits.register.is, c.requires.waits.memory.is, waits.0, waits.1) in
+    let cycle : c.times-times.result.now.issue ≡ (t j).issue = ap (λ r. r.issue) c.times-times.ensures in
+    let from : c.earliest-from.result ≡ earliest run t j = c.earliest-from.ensures (t j).issue (run.row j).reserved (c.requires.slots.each j lj) ∙ ap (λ r. if (run.row j).reserved then r.dispatch else r.dispatch + 1) c.times-times.ensures in
+    let ordered : c.earliest-from.result + c.args.waits.register.cycles + c.args.waits.memory.cycles ≡ memory_at run t j = omega (arith, from, c.requires.waits.register.is, c.requires.waits.memory.is, waits.0, waits.1) in
     omega (arith, cycle, early.1, early.2, c.requires.run.early j lj)
 
 pub overflow_sub-issue-2 : goal.overflow_sub-issue-2
@@ -101,8 +107,9 @@ overflow_sub-issue-2 g c =
     let lj : j < run.rows = c.requires.order.all.below c.args.i li in
     let waits = waits_sum run t j c.requires.run.run.each lj in
     let early = issue_early run t j c.requires.run.run.each lj in
-    let cycle : c.times.result.now.issue ≡ (t j).issue = ap (λ r. r.issue) c.times.ensures in
-    let ordered : c.earliest.result + c.args.waits.register.cycles + c.args.waits.memory.cycles ≡ memory_at run t j = omega (arith, c.earliest.ensures, c.requires.waits.register.is, c.requires.waits.memory.is, waits.0, waits.1) in
+    let cycle : c.times-times.result.now.issue ≡ (t j).issue = ap (λ r. r.issue) c.times-times.ensures in
+    let from : c.earliest-from.result ≡ earliest run t j = c.earliest-from.ensures (t j).issue (run.row j).reserved (c.requires.slots.each j lj) ∙ ap (λ r. if (run.row j).reserved then r.dispatch else r.dispatch + 1) c.times-times.ensures in
+    let ordered : c.earliest-from.result + c.args.waits.register.cycles + c.args.waits.memory.cycles ≡ memory_at run t j = omega (arith, from, c.requires.waits.register.is, c.requires.waits.memory.is, waits.0, waits.1) in
     omega (arith, ordered, cycle, waits.2)
 
 pub blamed-requires-clause-some : goal.blamed-requires-clause-some
@@ -114,8 +121,9 @@ blamed-requires-clause-some g c =
     let lj : j < run.rows = c.requires.order.all.below c.args.i li in
     let waits = waits_sum run t j c.requires.run.run.each lj in
     let early = issue_early run t j c.requires.run.run.each lj in
-    let cycle : c.times.result.now.issue ≡ (t j).issue = ap (λ r. r.issue) c.times.ensures in
-    let ordered : c.earliest.result + c.args.waits.register.cycles + c.args.waits.memory.cycles ≡ memory_at run t j = omega (arith, c.earliest.ensures, c.requires.waits.register.is, c.requires.waits.memory.is, waits.0, waits.1) in
+    let cycle : c.times-times.result.now.issue ≡ (t j).issue = ap (λ r. r.issue) c.times-times.ensures in
+    let from : c.earliest-from.result ≡ earliest run t j = c.earliest-from.ensures (t j).issue (run.row j).reserved (c.requires.slots.each j lj) ∙ ap (λ r. if (run.row j).reserved then r.dispatch else r.dispatch + 1) c.times-times.ensures in
+    let ordered : c.earliest-from.result + c.args.waits.register.cycles + c.args.waits.memory.cycles ≡ memory_at run t j = omega (arith, from, c.requires.waits.register.is, c.requires.waits.memory.is, waits.0, waits.1) in
     let some : 0 < (t j).issue = omega (arith, c.if-ordered-issue.false, ordered, cycle, waits.2) in
     some
 
@@ -128,8 +136,9 @@ blamed-requires-clause-holders g c =
     let lj : j < run.rows = c.requires.order.all.below c.args.i li in
     let waits = waits_sum run t j c.requires.run.run.each lj in
     let early = issue_early run t j c.requires.run.run.each lj in
-    let cycle : c.times.result.now.issue ≡ (t j).issue = ap (λ r. r.issue) c.times.ensures in
-    let ordered : c.earliest.result + c.args.waits.register.cycles + c.args.waits.memory.cycles ≡ memory_at run t j = omega (arith, c.earliest.ensures, c.requires.waits.register.is, c.requires.waits.memory.is, waits.0, waits.1) in
+    let cycle : c.times-times.result.now.issue ≡ (t j).issue = ap (λ r. r.issue) c.times-times.ensures in
+    let from : c.earliest-from.result ≡ earliest run t j = c.earliest-from.ensures (t j).issue (run.row j).reserved (c.requires.slots.each j lj) ∙ ap (λ r. if (run.row j).reserved then r.dispatch else r.dispatch + 1) c.times-times.ensures in
+    let ordered : c.earliest-from.result + c.args.waits.register.cycles + c.args.waits.memory.cycles ≡ memory_at run t j = omega (arith, from, c.requires.waits.register.is, c.requires.waits.memory.is, waits.0, waits.1) in
     let asks : c.take_before.ensures.taking.cycle ≤ (t j).issue - 1 = c.take_before.ensures.taking.ready.asks c.args.i (let e : c.args.i ≤ c.args.i = omega arith in e) li in
     holders_later run t c.args.order.now c.take_before.new.taken c.take_before.ensures.taking.cycle ((t j).issue - 1) c.take_before.new.last asks c.take_before.ensures.taking.holders
 
@@ -142,8 +151,9 @@ returns-clause-taking g c =
     let lj : j < run.rows = c.requires.order.all.below c.args.i li in
     let waits = waits_sum run t j c.requires.run.run.each lj in
     let early = issue_early run t j c.requires.run.run.each lj in
-    let cycle : c.times.result.now.issue ≡ (t j).issue = ap (λ r. r.issue) c.times.ensures in
-    let ordered : c.earliest.result + c.args.waits.register.cycles + c.args.waits.memory.cycles ≡ memory_at run t j = omega (arith, c.earliest.ensures, c.requires.waits.register.is, c.requires.waits.memory.is, waits.0, waits.1) in
+    let cycle : c.times-times.result.now.issue ≡ (t j).issue = ap (λ r. r.issue) c.times-times.ensures in
+    let from : c.earliest-from.result ≡ earliest run t j = c.earliest-from.ensures (t j).issue (run.row j).reserved (c.requires.slots.each j lj) ∙ ap (λ r. if (run.row j).reserved then r.dispatch else r.dispatch + 1) c.times-times.ensures in
+    let ordered : c.earliest-from.result + c.args.waits.register.cycles + c.args.waits.memory.cycles ≡ memory_at run t j = omega (arith, from, c.requires.waits.register.is, c.requires.waits.memory.is, waits.0, waits.1) in
     let asks : c.take_before.ensures.taking.cycle ≤ (t j).issue - 1 = c.take_before.ensures.taking.ready.asks c.args.i (let e : c.args.i ≤ c.args.i = omega arith in e) li in
     record {
       cycle = (t j).issue - 1;
@@ -163,7 +173,22 @@ returns-clause-wait g c =
     let lj : j < run.rows = c.requires.order.all.below c.args.i li in
     let waits = waits_sum run t j c.requires.run.run.each lj in
     let early = issue_early run t j c.requires.run.run.each lj in
-    let cycle : c.times.result.now.issue ≡ (t j).issue = ap (λ r. r.issue) c.times.ensures in
-    let ordered : c.earliest.result + c.args.waits.register.cycles + c.args.waits.memory.cycles ≡ memory_at run t j = omega (arith, c.earliest.ensures, c.requires.waits.register.is, c.requires.waits.memory.is, waits.0, waits.1) in
-    let cycles : resource_wait run t j ≡ c.times.result.now.issue - (c.earliest.result + c.args.waits.register.cycles + c.args.waits.memory.cycles) = omega (arith, ordered, cycle) in
+    let cycle : c.times-times.result.now.issue ≡ (t j).issue = ap (λ r. r.issue) c.times-times.ensures in
+    let from : c.earliest-from.result ≡ earliest run t j = c.earliest-from.ensures (t j).issue (run.row j).reserved (c.requires.slots.each j lj) ∙ ap (λ r. if (run.row j).reserved then r.dispatch else r.dispatch + 1) c.times-times.ensures in
+    let ordered : c.earliest-from.result + c.args.waits.register.cycles + c.args.waits.memory.cycles ≡ memory_at run t j = omega (arith, from, c.requires.waits.register.is, c.requires.waits.memory.is, waits.0, waits.1) in
+    let cycles : resource_wait run t j ≡ c.times-times.result.now.issue - (c.earliest-from.result + c.args.waits.register.cycles + c.args.waits.memory.cycles) = omega (arith, ordered, cycle) in
     (λ i. edge_of Resource (cycles i) j (sym c.blamed.ensures i)) ∙ c.wait_for-2.ensures Resource j
+
+pub bounds-slots-j : goal.bounds-slots-j
+bounds-slots-j g c =
+    let lt : slice_index c.args.order.now c.args.i < (g.R.Rows.input c.args.rows.now).rows = c.requires.order.all.below c.args.i (omega (arith, c.requires.place, c.requires.order.all.rows)) in
+    omega (arith, lt, c.requires.slots.size)
+
+pub earliest-from-requires : goal.earliest-from-requires
+earliest-from-requires g c =
+    let run : Input = g.R.Rows.input c.args.rows.now in
+    let t : Table = times (g.R.Rows.table c.args.rows.now) in
+    let j : ℕ = slice_index c.args.order.now c.args.i in
+    let lj : j < run.rows = c.requires.order.all.below c.args.i (omega (arith, c.requires.place, c.requires.order.all.rows)) in
+    let early = issue_early run t j c.requires.run.run.each lj in
+    omega (arith, ap (λ r. r.dispatch) c.times-times.ensures, early.0, early.1, early.2, c.requires.run.early j lj)
