@@ -1,5 +1,5 @@
-use Rattle.std.proofs.Common.{◌≡◌, ◌*◌, ◌+◌, ℕ, arith, Bool, true, false}
-use Rattle.std.specs.Prelude.{◌%◌, if◌then◌else◌}
+use Rattle.std.proofs.Common.{◌≡◌, arith, true, false}
+use Rattle.std.specs.Prelude.{◌%◌}
 use Rattle.dep_graph.proofs.unit_waits.earliest.Goals as goal
 
 pub returns : goal.returns
