@@ -14,6 +14,7 @@ ghost use Rattle.dep_graph.specs.Turns.{AreRows, AreSlots, is_before_slot};
 ghost use Rattle.dep_graph.specs.Walk.{IsSoundRun};
 
 use crate::holders::{Taker, first_busy, last_holder, take_row};
+use crate::order::is_sooner;
 use crate::rows::Rows;
 use crate::waits::{Wait, Waits};
 use machine_model::Machine;
@@ -30,8 +31,7 @@ fn issues_before(slots: &[u64], order: &[u32], q: usize, slot: u64, j: u32) -> b
         return false;
     }
     let k = order[q];
-    let issue = slots[k as usize];
-    issue < slot || (issue == slot && k < j)
+    is_sooner(slots[k as usize], k, slot, j)
 }
 
 // Lets the rows take their units that issue before the one at a place of the order looks for units
