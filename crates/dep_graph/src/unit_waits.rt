@@ -66,7 +66,8 @@ fn take_before<M: Machine, R: Rows>(
     }
 }
 
-// The row that is blamed where row j finds no unit in the cycle before its issue, if there is one.
+// The row that is blamed where row j finds no unit in cycle c, the one before its issue, if there is
+// one.
 fn blamed<M: Machine, R: Rows>(
     machine: &M,
     rows: &R,
@@ -75,12 +76,13 @@ fn blamed<M: Machine, R: Rows>(
     order: &[u32],
     taken: usize,
     j: usize,
+    c: u64,
 ) -> Option<u32>
     requires run { IsSoundRun (R.input rows.now) (R.table rows.now) }
     requires order { IsIssueOrder (R.input rows.now) (times (R.table rows.now)) order.now }
     requires row { j < (R.input rows.now).rows }
     requires few { taken ≤ (R.input rows.now).rows }
-    requires some { 0 < (times (R.table rows.now) j).issue }
+    requires cycle { c ≡ (times (R.table rows.now) j).issue - 1 }
     requires machine { M.meaning machine.now ≡ (R.input rows.now).machine }
     requires of { machine_of M.meaning units.now ≡ (R.input rows.now).machine }
     requires first { AreFirst (R.input rows.now) (times (R.table rows.now)) order.now taken
@@ -91,7 +93,6 @@ fn blamed<M: Machine, R: Rows>(
         ((times (R.table rows.now) j).issue - 1) last.now }
     ensures { result ≡ resource_blamed (R.input rows.now) (times (R.table rows.now)) j }
 {
-    let c = rows.times(j).issue - 1;
     let Some(r) = first_busy(units, rows.instruction(j), c) else {
         return None;
     };
@@ -158,10 +159,11 @@ pub fn unit_wait<M: Machine, R: Rows>(
     if ordered == issue {
         return wait_for(0, None);
     }
+    let asks = issue - 1;
     take_before(rows, units, last, order, slots, taken, i);
-    units.release_until(issue - 1);
+    units.release_until(asks);
     wait_for(
         issue - ordered,
-        blamed(machine, rows, units, last, order, *taken, j),
+        blamed(machine, rows, units, last, order, *taken, j, asks),
     )
 }

@@ -69,8 +69,8 @@ take_before-requires-clause-some g c =
     let some : 0 < (t j).issue = omega (arith, c.if-ordered-issue.false, ordered, cycle, waits.2) in
     some
 
-pub overflow_sub-issue : goal.overflow_sub-issue
-overflow_sub-issue g c =
+pub overflow_sub-asks : goal.overflow_sub-asks
+overflow_sub-asks g c =
     let run : Input = g.R.Rows.input c.args.rows.now in
     let t : Table = times (g.R.Rows.table c.args.rows.now) in
     let j : ℕ = slice_index c.args.order.now c.args.i in
@@ -98,8 +98,8 @@ release_until-requires g c =
     let ordered : c.earliest-from.result + c.args.waits.register.cycles + c.args.waits.memory.cycles ≡ memory_at run t j = omega (arith, from, c.requires.waits.register.is, c.requires.waits.memory.is, waits.0, waits.1) in
     omega (arith, cycle, early.1, early.2, c.requires.run.early j lj)
 
-pub overflow_sub-issue-2 : goal.overflow_sub-issue-2
-overflow_sub-issue-2 g c =
+pub overflow_sub-issue : goal.overflow_sub-issue
+overflow_sub-issue g c =
     let run : Input = g.R.Rows.input c.args.rows.now in
     let t : Table = times (g.R.Rows.table c.args.rows.now) in
     let j : ℕ = slice_index c.args.order.now c.args.i in
@@ -112,20 +112,8 @@ overflow_sub-issue-2 g c =
     let ordered : c.earliest-from.result + c.args.waits.register.cycles + c.args.waits.memory.cycles ≡ memory_at run t j = omega (arith, from, c.requires.waits.register.is, c.requires.waits.memory.is, waits.0, waits.1) in
     omega (arith, ordered, cycle, waits.2)
 
-pub blamed-requires-clause-some : goal.blamed-requires-clause-some
-blamed-requires-clause-some g c =
-    let run : Input = g.R.Rows.input c.args.rows.now in
-    let t : Table = times (g.R.Rows.table c.args.rows.now) in
-    let j : ℕ = slice_index c.args.order.now c.args.i in
-    let li : c.args.i < run.rows = omega (arith, c.requires.place, c.requires.order.all.rows) in
-    let lj : j < run.rows = c.requires.order.all.below c.args.i li in
-    let waits = waits_sum run t j c.requires.run.run.each lj in
-    let early = issue_early run t j c.requires.run.run.each lj in
-    let cycle : c.times-times.result.now.issue ≡ (t j).issue = ap (λ r. r.issue) c.times-times.ensures in
-    let from : c.earliest-from.result ≡ earliest run t j = c.earliest-from.ensures (t j).issue (run.row j).reserved (c.requires.slots.each j lj) ∙ ap (λ r. if (run.row j).reserved then r.dispatch else r.dispatch + 1) c.times-times.ensures in
-    let ordered : c.earliest-from.result + c.args.waits.register.cycles + c.args.waits.memory.cycles ≡ memory_at run t j = omega (arith, from, c.requires.waits.register.is, c.requires.waits.memory.is, waits.0, waits.1) in
-    let some : 0 < (t j).issue = omega (arith, c.if-ordered-issue.false, ordered, cycle, waits.2) in
-    some
+pub blamed-requires-clause-cycle : goal.blamed-requires-clause-cycle
+blamed-requires-clause-cycle g c = ap (λ r. r.issue - 1) c.times-times.ensures
 
 pub blamed-requires-clause-holders : goal.blamed-requires-clause-holders
 blamed-requires-clause-holders g c =
