@@ -142,6 +142,7 @@ fn fill_group<R: Rows>(fill: &mut Fill, rows: &R, b: &Bound, j: usize, begin: u6
 
 // Takes what row j takes of the registers, and of their file, and gives the cycle from which on it
 // found both.
+#[inline(always)]
 fn take_registers<R: Rows>(
     registers: &mut Window,
     files: &mut [Window; 8],
@@ -167,6 +168,7 @@ fn take_registers<R: Rows>(
 }
 
 // Takes what row j takes of a register file, and gives the cycle from which on it found that.
+#[inline(always)]
 fn take_file<R: Rows>(files: &mut [Window; 8], rows: &R, rd: Reg, j: usize) -> u64
     requires run { IsSoundRun (R.input rows.now) (R.table rows.now) }
     requires row { j < (R.input rows.now).rows }
