@@ -4,13 +4,14 @@ use Rattle.rv_isa.specs.declared.facts.Kind.TheVariants.{Load, Store, Barrier}
 use Rattle.cycle_rules.specs.CycleBound.{max_below}
 use Rattle.cycle_rules.specs.Row.{Input, Table}
 use Rattle.cycle_rules.specs.Issue.{producer, is_fenced}
-use Rattle.cycle_rules.specs.Waits.{register_wait, memory_wait}
+use Rattle.cycle_rules.specs.Waits.{register_wait, memory_wait, resource_wait}
 use Rattle.cycle_rules.specs.declared.bound.Source.{Source}
 use Rattle.dep_graph.specs.PassTimes.{read_time, reads_time, let_go}
 use Rattle.dep_graph.specs.Blamed.{register_blamed, memory_blamed}
 use Rattle.dep_graph.specs.declared.peak.Peak.{Peak}
 use Rattle.dep_graph.specs.declared.memory.Fences.{Fences}
 use Rattle.dep_graph.specs.declared.waits.Older.{Older}
+use Rattle.dep_graph.specs.declared.waits.RowWaits.{RowWaits}
 use Rattle.dep_graph.specs.declared.waits.Wait.{Wait}
 use Rattle.dep_graph.specs.declared.waits.Waits.{Waits}
 
@@ -61,6 +62,11 @@ pub record IsWait (cycles : ℕ) (blamed : Option ℕ) (wait : Wait) : Type 0 wh
 pub record AreWaits (g : Input) (t : Table) (j : ℕ) (waits : Waits) : Type 0 where
   pub register : IsWait (register_wait g t j) (register_blamed g t j) waits.register
   pub memory : IsWait (memory_wait g t j) (memory_blamed g t j) waits.memory
+
+-- and for units
+pub record AreRowWaits (g : Input) (t : Table) (j : ℕ) (row : RowWaits) : Type 0 where
+  pub before : AreWaits g t j row.before
+  pub units : row.units ≡ resource_wait g t j
 
 -- the waits of a row in a list of them
 abbrev pub waits_at : List Waits → ℕ → Waits

@@ -9,13 +9,15 @@ ghost use Rattle.dep_graph.specs.Peaks.{AreWaits, waits_at};
 ghost use Rattle.dep_graph.specs.RunGraph.{IsGraphOf, IsIssueOrder};
 ghost use Rattle.dep_graph.specs.Taking.{IsTaking, wait_edge};
 ghost use Rattle.dep_graph.specs.Turns.{AreSlots};
+ghost use Rattle.dep_graph.specs.WaitSums.{AreSums};
 ghost use Rattle.dep_graph.specs.Walk.{IsSoundRun};
 
 use crate::holders::Taker;
 use crate::order::{IssueOrder, issue_order};
 use crate::rows::{Rows, Run};
 use crate::unit_waits::unit_wait;
-use crate::waits::{Wait, Waits, all_waits};
+use crate::sums::WaitSums;
+use crate::waits::{AllWaits, Wait, Waits, all_waits};
 use critical_chain::{Edge, EdgeKind, Graph};
 use cycle_rules::{Bound, Timeline};
 use machine_model::Machine;
@@ -50,26 +52,71 @@ pub fn edges<M: Machine>(
         (times run.now.rows) graph) }
     ensures graph { IfOk result (λ graph. IsGraph graph) }
 {
-    let rows = Run::make(machine, body, iterations as usize, run.rows.as_slice());
-    graph_of(alloc, machine, &rows)
+    let waits = run_waits(alloc, machine, body, iterations, run)?;
+    Ok(waits.graph)
 }
 
-// The graph of the waits of some rows.
-fn graph_of<M: Machine, R: Rows>(alloc: Global, machine: &M, rows: &R) -> Result<Graph, NoMemory>
+/// The waits of a run as a graph, as `edges` gives it, and added up.
+#[derive(Drop)]
+pub struct RunWaits {
+    pub graph: Graph,
+    pub sums: WaitSums,
+}
+
+/// The waits of a run as a graph, and for how many cycles its rows waited in all: each for its
+/// operands, then for the order of memory, then for units. What is given, and what comes of it, is as
+/// for `edges`.
+///
+/// # Errors
+///
+/// Want of memory.
+pub fn run_waits<M: Machine>(
+    alloc: Global,
+    machine: &M,
+    body: &[Bound],
+    iterations: u32,
+    run: &Timeline,
+) -> Result<RunWaits, NoMemory>
+    requires bound { IsBoundBody (M.meaning machine.now) body.now }
+    requires some { 0 < length body.now }
+    requires iterations { 1 ≤ iterations }
+    requires rows { iterations * length body.now ≤ MOST_ROWS }
+    requires run { IsRun (M.meaning machine.now) (map row_of body.now) iterations run.now.rows }
+    ensures waits { IfOk result (λ waits. IsGraphOf
+        (input (M.meaning machine.now) (map row_of body.now) iterations)
+        (times run.now.rows) waits.graph) }
+    ensures graph { IfOk result (λ waits. IsGraph waits.graph) }
+    ensures sums { IfOk result (λ waits. AreSums
+        (input (M.meaning machine.now) (map row_of body.now) iterations)
+        (times run.now.rows) (iterations * length body.now) waits.sums) }
+{
+    let rows = Run::make(machine, body, iterations as usize, run.rows.as_slice());
+    waits_of(alloc, machine, &rows)
+}
+
+// The waits of some rows.
+fn waits_of<M: Machine, R: Rows>(
+    alloc: Global,
+    machine: &M,
+    rows: &R,
+) -> Result<RunWaits, NoMemory>
     requires run { IsSoundRun (R.input rows.now) (R.table rows.now) }
     requires machine { M.meaning machine.now ≡ (R.input rows.now).machine }
-    ensures waits { IfOk result (λ graph. IsGraphOf (R.input rows.now) (times (R.table rows.now))
-        graph) }
-    ensures graph { IfOk result (λ graph. IsGraph graph) }
+    ensures waits { IfOk result (λ waits. IsGraphOf (R.input rows.now) (times (R.table rows.now))
+        waits.graph) }
+    ensures graph { IfOk result (λ waits. IsGraph waits.graph) }
+    ensures sums { IfOk result (λ waits. AreSums (R.input rows.now) (times (R.table rows.now))
+        (R.input rows.now).rows waits.sums) }
 {
     let IssueOrder { order, slots } = issue_order(alloc, rows)?;
-    let waits = all_waits(alloc, rows)?;
-    let edges = all_edges(alloc, machine, rows, &order, &slots, &waits)?;
-    Ok(Graph {
+    let AllWaits { before, sums } = all_waits(alloc, rows)?;
+    let edges = all_edges(alloc, machine, rows, &order, &slots, &before)?;
+    let graph = Graph {
         rows: rows.count() as u32,
         order: Items::from_vec(order),
         edges: Items::from_vec(edges),
-    })
+    };
+    Ok(RunWaits { graph, sums })
 }
 
 // Adds the edge of a wait of a row, where it waited.

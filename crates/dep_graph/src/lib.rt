@@ -3,7 +3,7 @@
 //! `edges` gives the waits of a run as a graph: from the row that is blamed to the row that waited.
 //! It goes over the rows in program order, with the last writer of each register and the rows that
 //! hold memory back last, and then in issue order, with the units and the rows that took them last.
-//! `wait_sums` adds the waits up, by what was waited for.
+//! `run_waits` gives that graph, and the waits added up, by what was waited for.
 //! `stalls` counts the cycles in which the next row did not dispatch, by what it lacked first: each
 //! lack ends in one cycle, so no cycle is looked at.
 //!
@@ -49,9 +49,9 @@ mod waits;
 mod walk;
 mod window;
 
-pub use graph::edges;
+pub use graph::{RunWaits, edges, run_waits};
 pub use stall_counts::stalls;
-pub use sums::{WaitSums, wait_sums};
+pub use sums::WaitSums;
 
 /// Waits as edges, and stalls, of runs that were worked out by hand.
 pub fn worked()

@@ -1,14 +1,17 @@
 //! The waits of rows for values and for the order of memory.
-ghost use Rattle.std.specs.Prelude.{◌≡◌, ◌<◌, ◌≤◌, ◌+◌, ◌-◌, ℕ, length, IfOk};
+ghost use Rattle.std.specs.Prelude.{◌≡◌, ◌<◌, ◌≤◌, ◌+◌, ◌-◌, ◌^◌, ℕ, length, IfOk, if◌then◌else◌};
+ghost use Rattle.cycle_rules.specs.Bind.{row_of, IsBound};
 ghost use Rattle.cycle_rules.specs.Row.{Input, Table, times};
-ghost use Rattle.cycle_rules.specs.Waits.{earliest};
-ghost use Rattle.dep_graph.specs.Peaks.{AreOlder, AreWaits, waits_at};
+ghost use Rattle.dep_graph.specs.Peaks.{AreOlder, AreRowWaits, AreWaits, waits_at};
+ghost use Rattle.dep_graph.specs.WaitSums.{AreSums};
 ghost use Rattle.dep_graph.specs.Walk.{IsSoundRun};
 
 use crate::memory::Fences;
 use crate::peak::Peak;
 use crate::reads::Writers;
 use crate::rows::Rows;
+use crate::sums::WaitSums;
+use cycle_rules::{Bound, Times};
 use mca_fixed::NoMemory;
 use std::alloc::Global;
 
@@ -26,18 +29,28 @@ pub struct Waits {
     pub memory: Wait,
 }
 
-/// The first cycle in which row j may issue at all.
-pub fn earliest<R: Rows>(rows: &R, j: usize) -> u64
-    requires run { IsSoundRun (R.input rows.now) (R.table rows.now) }
-    requires row { j < (R.input rows.now).rows }
-    ensures { result ≡ earliest (R.input rows.now) (times (R.table rows.now)) j }
+/// The waits of a row.
+#[derive(Clone, Copy, Debug)]
+pub struct RowWaits {
+    pub before: Waits,
+    /// For how many cycles it waited for units after that.
+    pub units: u64,
+}
+
+/// The waits of all rows.
+#[derive(Drop)]
+pub struct AllWaits {
+    /// What each waited for before it waited for units.
+    pub before: Vec<Waits>,
+    pub sums: WaitSums,
+}
+
+// The first cycle in which a row may issue at all.
+fn earliest(reserved: bool, dispatch: u64) -> u64
+    requires { dispatch < 2 ^ 42 }
+    ensures { result ≡ (if reserved then dispatch else dispatch + 1) }
 {
-    let dispatch = rows.times(j).dispatch;
-    if rows.instruction(j).reserved {
-        dispatch
-    } else {
-        dispatch + 1
-    }
+    if reserved { dispatch } else { dispatch + 1 }
 }
 
 // What is waited from one cycle on until what comes last.
@@ -71,54 +84,66 @@ impl Older {
     }
 
     /// Lets row j go by, and gives its waits.
-    pub fn pass<R: Rows>(&mut self, rows: &R, j: usize) -> Waits
+    pub fn pass<R: Rows>(&mut self, rows: &R, j: usize) -> RowWaits
         requires run { IsSoundRun (R.input rows.now) (R.table rows.now) }
         requires row { j < (R.input rows.now).rows }
         requires older { AreOlder (R.input rows.now) (times (R.table rows.now)) j self.old }
         ensures older { AreOlder (R.input rows.now) (times (R.table rows.now)) (j + 1) self.new }
-        ensures waits { AreWaits (R.input rows.now) (times (R.table rows.now)) j result }
+        ensures waits { AreRowWaits (R.input rows.now) (times (R.table rows.now)) j result }
     {
-        let waits = self.waits_of(rows, j);
         let b = rows.instruction(j);
-        let times = rows.times(j);
+        let at = rows.times(j);
+        let waits = self.waits_of(rows, b, at, j);
         let no_alias = rows.limits().no_alias;
         self.writers.pass(j as u32, b.rd);
         self.fences
-            .pass(j as u32, b.kind, no_alias, times.issue, times.complete);
+            .pass(j as u32, b.kind, no_alias, at.issue, at.complete);
         waits
     }
 
-    // The waits of row j.
-    fn waits_of<R: Rows>(&self, rows: &R, j: usize) -> Waits
+    // The waits of row j, which is a bound instruction, by its times.
+    fn waits_of<R: Rows>(&self, rows: &R, b: &Bound, at: &Times, j: usize) -> RowWaits
         requires run { IsSoundRun (R.input rows.now) (R.table rows.now) }
         requires row { j < (R.input rows.now).rows }
         requires older { AreOlder (R.input rows.now) (times (R.table rows.now)) j self.now }
-        ensures { AreWaits (R.input rows.now) (times (R.table rows.now)) j result }
+        requires instruction { row_of b.now ≡ (R.input rows.now).row j }
+        requires bound { IsBound (R.input rows.now).machine b.now }
+        requires at { at.now ≡ times (R.table rows.now) j }
+        ensures { AreRowWaits (R.input rows.now) (times (R.table rows.now)) j result }
     {
-        let b = rows.instruction(j);
-        let from = earliest(rows, j);
+        let from = earliest(b.reserved, at.dispatch);
         let late = self
             .writers
             .times(rows, j, &b.reads[..b.read_count as usize]);
         let ready = from.max(late.time);
-        Waits {
-            register: until(from, late),
-            memory: until(ready, self.fences.of_kind(b.kind)),
+        let fence = self.fences.of_kind(b.kind);
+        let ordered = ready.max(fence.time);
+        RowWaits {
+            before: Waits {
+                register: until(from, late),
+                memory: until(ready, fence),
+            },
+            units: at.issue - ordered,
         }
     }
 }
 
 /// The waits of all rows.
-pub fn all_waits<R: Rows>(alloc: Global, rows: &R) -> Result<Vec<Waits>, NoMemory>
+pub fn all_waits<R: Rows>(alloc: Global, rows: &R) -> Result<AllWaits, NoMemory>
     requires run { IsSoundRun (R.input rows.now) (R.table rows.now) }
-    ensures size { IfOk result (λ waits. length waits.items ≡ (R.input rows.now).rows) }
-    ensures waits { IfOk result (λ waits. (j : ℕ) → j < (R.input rows.now).rows →
-        AreWaits (R.input rows.now) (times (R.table rows.now)) j (waits_at waits.items j)) }
+    ensures size { IfOk result (λ all. length all.before.items ≡ (R.input rows.now).rows) }
+    ensures waits { IfOk result (λ all. (j : ℕ) → j < (R.input rows.now).rows →
+        AreWaits (R.input rows.now) (times (R.table rows.now)) j (waits_at all.before.items j)) }
+    ensures sums { IfOk result (λ all. AreSums (R.input rows.now) (times (R.table rows.now))
+        (R.input rows.now).rows all.sums) }
 {
     let mut older = Older::none();
-    let mut waits = Vec::with_capacity(alloc, rows.count())?;
+    let mut sums = WaitSums::none();
+    let mut before = Vec::with_capacity(alloc, rows.count())?;
     for j in 0..rows.count() {
-        waits.push(older.pass(rows, j))?;
+        let row = older.pass(rows, j);
+        sums = sums.with_row(rows, row, j);
+        before.push(row.before)?;
     }
-    Ok(waits)
+    Ok(AllWaits { before, sums })
 }

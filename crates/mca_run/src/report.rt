@@ -24,7 +24,7 @@ use cycle_rules::{Bound, Steps};
 use event_engine::EventEngine;
 use machine_model::Machine;
 use mca_fixed::{Items, MOST_REPORT_BYTES, MOST_ROWS, NoMemory};
-use mca_views::{Page, View, ViewFault, put_region, sequence_for};
+use mca_views::{Page, View, ViewFault, held_up_for, put_region};
 use mca_words::Options;
 use std::alloc::Global;
 use std::sync::ledger::Ledger;
@@ -75,9 +75,9 @@ fn put_report<M: Machine, L: Ledger>(
         iterations,
         run: &run,
     };
-    let chain = sequence_for(alloc, &view, options)?;
+    let held = held_up_for(alloc, &view, options)?;
     put_gap(page, k)?;
-    put_region(alloc, page, k, program.name(k), &view, options, &chain)
+    put_region(alloc, page, k, program.name(k), &view, options, &held)
 }
 
 /// The reports of all regions.

@@ -1,5 +1,5 @@
 -- What held a run up: how long its rows waited and for what, what dispatch lacked, and the costliest chain of waits.
-use Rattle.std.specs.Prelude.{◌≡◌, ℕ, ◌<◌, ◌/◌, ◌%◌, List, [], ◌∷◌, ◌++◌, map, codes, length, slice_index, true, false, Option, Some, None, ⊤}
+use Rattle.std.specs.Prelude.{◌≡◌, ℕ, ◌<◌, ◌*◌, ◌/◌, ◌%◌, List, [], ◌∷◌, ◌++◌, map, codes, length, slice_index, true, false, Option, Some, None, ⊤}
 use Rattle.std.specs.Fmt.{decimal}
 use Rattle.critical_chain.specs.Chain.{IsCritical}
 use Rattle.critical_chain.specs.Graph.{IsGraph}
@@ -11,12 +11,14 @@ use Rattle.critical_chain.specs.declared.graph.Graph.{Graph}
 use Rattle.cycle_rules.specs.Below.{sum_below}
 use Rattle.cycle_rules.specs.Row.{Input, Table, times}
 use Rattle.cycle_rules.specs.Waits.{register_wait, memory_wait, resource_wait}
+use Rattle.dep_graph.specs.WaitSums.{AreSums}
 use Rattle.dep_graph.specs.RunGraph.{IsGraphOf}
 use Rattle.dep_graph.specs.Stalls.{stalls}
 use Rattle.mca_words.specs.declared.options.Options.{Options}
 use Rattle.mca_views.specs.Lines.{labelled, lines}
 use Rattle.mca_views.specs.Shown.{Shown, run_of}
 use Rattle.mca_views.specs.Timeline.{tag}
+use Rattle.mca_views.specs.declared.bottlenecks.HeldUp.{HeldUp}
 use Rattle.mca_views.specs.declared.fault.ViewFault.{ViewFault}
 use Rattle.mca_views.specs.declared.fault.ViewFault.TheVariants as fault
 
@@ -31,6 +33,16 @@ pub record IsSequence (s : Shown) (c : Chain) : Type 0 where
 abbrev pub IsAsked : Options → Shown → Option Chain → Type 0
 IsAsked o s None = o.bottleneck_analysis ≡ false
 IsAsked o s (Some c) = (o.bottleneck_analysis ≡ true) × (IsSequence s c)
+
+-- of what held a run up, the critical sequence
+abbrev pub sequence_of : Option HeldUp → Option Chain
+sequence_of None = None
+sequence_of (Some held) = Some held.chain
+
+-- and the sums of the waits of the run
+abbrev pub HasSums : Shown → Option HeldUp → Type 0
+HasSums s None = ⊤
+HasSums s (Some held) = AreSums (run_of s) (times s.table) (s.iterations * length s.body) held.waits
 
 -- how long all rows waited
 abbrev pub waited : Shown → (Input → Table → ℕ → ℕ) → ℕ

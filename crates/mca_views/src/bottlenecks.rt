@@ -1,11 +1,13 @@
 //! What held a run up: the waits of its rows, the stalls of dispatch, and the critical sequence.
-ghost use Rattle.std.specs.Prelude.{◌≡◌, ◌≤◌, ◌<◌, ℕ, List, [], ◌∷◌, ◌+◌, ◌++◌, map, drop, length, Option, IfOk, OnOk, IfErr};
+ghost use Rattle.std.specs.Prelude.{◌≡◌, ◌≤◌, ◌<◌, ℕ, List, [], ◌∷◌, ◌+◌, ◌*◌, ◌++◌, map, drop, length, Option, Some, IfOk, OnOk, IfErr};
 ghost use Rattle.critical_chain.specs.declared.graph.Chain.{Chain as ChainOf};
 ghost use Rattle.cycle_rules.specs.Bind.{IsBoundBody};
+ghost use Rattle.cycle_rules.specs.Row.{times};
 ghost use Rattle.cycle_rules.specs.Run.{IsRunOf};
+ghost use Rattle.dep_graph.specs.WaitSums.{AreSums};
 ghost use Rattle.machine_model.specs.Valid.{IsValidMachine};
 ghost use Rattle.mca_words.specs.declared.options.Options.{Options as OptionsOf};
-ghost use Rattle.mca_views.specs.Bottleneck.{IsSequence, IsAsked, IsBottleneck, IsOver, sum_lines, waited_lines, stall_lines, row_tag, kind_word, link_line, sequence_lines, bottleneck_lines};
+ghost use Rattle.mca_views.specs.Bottleneck.{IsSequence, IsAsked, HasSums, sequence_of, IsBottleneck, IsOver, sum_lines, waited_lines, stall_lines, row_tag, kind_word, link_line, sequence_lines, bottleneck_lines};
 ghost use Rattle.mca_views.specs.Fault.{Over};
 ghost use Rattle.mca_views.specs.Lines.{lines};
 ghost use Rattle.mca_views.specs.Page.{added};
@@ -17,7 +19,7 @@ use crate::fault::ViewFault;
 use crate::page::Page;
 use crate::view::View;
 use critical_chain::{Chain, Edge, EdgeKind, critical};
-use dep_graph::{edges, stalls, wait_sums};
+use dep_graph::{WaitSums, run_waits, stalls};
 use itoa::write_digits;
 use machine_model::Machine;
 use mca_fixed::NoMemory;
@@ -51,22 +53,33 @@ pub fn worked_bottleneck()
     ensures text { lines (bottleneck_lines two_products first_sum) ≡ two_products_text }
 {}
 
-/// The critical sequence of a run, where `-bottleneck-analysis` is on; none where it is off.
-pub fn sequence_for<M: Machine>(
+/// What held a run up.
+#[derive(Drop)]
+pub struct HeldUp {
+    /// The critical sequence.
+    pub chain: Chain,
+    /// For how many cycles rows waited, added up.
+    pub waits: WaitSums,
+}
+
+/// What held a run up, where `-bottleneck-analysis` is on; none where it is off.
+pub fn held_up_for<M: Machine>(
     alloc: Global,
     v: &View<M>,
     o: &Options,
-) -> Result<Option<Chain>, NoMemory>
+) -> Result<Option<HeldUp>, NoMemory>
     requires shown { IsShown (shown M.meaning v.now) }
     requires bound { IsBoundBody (M.meaning v.now.machine.now) v.now.body.now }
     requires run { IsRunOf (run_of (shown M.meaning v.now)) v.now.run.now.rows }
-    ensures { IfOk result (IsAsked o.now (shown M.meaning v.now)) }
+    ensures asked { IfOk result (λ held. IsAsked o.now (shown M.meaning v.now)
+        (sequence_of held)) }
+    ensures sums { IfOk result (HasSums (shown M.meaning v.now)) }
 {
     if !o.bottleneck_analysis {
         return Ok(None);
     }
-    let chain = sequence(alloc, v)?;
-    Ok(Some(chain))
+    let held = held_up(alloc, v)?;
+    Ok(Some(held))
 }
 
 /// What held a run up: for how many cycles its rows waited for operands, for the order of memory and for
@@ -89,60 +102,68 @@ pub fn bottleneck<M: Machine>(
     ensures fits { IfOk result (λ bytes. length bytes.items ≤ room) }
     ensures long { IfErr result (IsOver (shown M.meaning v.now) room) }
 {
-    let chain = sequence(alloc, v)?;
+    let held = held_up(alloc, v)?;
     let mut page = Page::make(alloc, room);
-    put_bottleneck(alloc, &mut page, v, &chain)?;
+    put_bottleneck(alloc, &mut page, v, &held)?;
     Ok(page.into_vec())
 }
 
-/// The critical sequence of a run.
-fn sequence<M: Machine>(alloc: Global, v: &View<M>) -> Result<Chain, NoMemory>
+/// What held a run up.
+fn held_up<M: Machine>(alloc: Global, v: &View<M>) -> Result<HeldUp, NoMemory>
     requires shown { IsShown (shown M.meaning v.now) }
     requires bound { IsBoundBody (M.meaning v.now.machine.now) v.now.body.now }
     requires run { IsRunOf (run_of (shown M.meaning v.now)) v.now.run.now.rows }
-    ensures { IfOk result (IsSequence (shown M.meaning v.now)) }
+    ensures sequence { IfOk result (λ held. IsSequence (shown M.meaning v.now) held.chain) }
+    ensures sums { IfOk result (λ held. HasSums (shown M.meaning v.now) (Some held)) }
 {
-    let graph = edges(alloc, v.machine, v.body, v.iterations, v.run)?;
-    let chain = critical(alloc, &graph)?;
-    Ok(chain)
+    let waits = run_waits(alloc, v.machine, v.body, v.iterations, v.run)?;
+    let chain = critical(alloc, &waits.graph)?;
+    Ok(HeldUp {
+        chain,
+        waits: waits.sums,
+    })
 }
 
-/// The lines of the view, with a chain.
+/// The lines of the view.
 pub(crate) fn put_bottleneck<M: Machine>(
     alloc: Global,
     page: &mut Page,
     v: &View<M>,
-    chain: &Chain,
+    held: &HeldUp,
 ) -> Result<(), ViewFault>
     requires closed { page.old.open_line ≡ [] }
     requires shown { IsShown (shown M.meaning v.now) }
     requires bound { IsBoundBody (M.meaning v.now.machine.now) v.now.body.now }
     requires run { IsRunOf (run_of (shown M.meaning v.now)) v.now.run.now.rows }
+    requires sums { HasSums (shown M.meaning v.now) (Some held.now) }
     ensures ok { OnOk result (page.new ≡ added page.old
-        (lines (bottleneck_lines (shown M.meaning v.now) chain.now))) }
+        (lines (bottleneck_lines (shown M.meaning v.now) held.now.chain))) }
     ensures long { IfErr result (Over page.old.room (length (added page.old
-        (lines (bottleneck_lines (shown M.meaning v.now) chain.now))).text)) }
+        (lines (bottleneck_lines (shown M.meaning v.now) held.now.chain))).text)) }
 {
-    put_waits(alloc, page, v)?;
+    put_waits(alloc, page, v, held.waits)?;
     put_stalls(alloc, page, v)?;
-    put_sequence(alloc, page, v, chain)?;
+    put_sequence(alloc, page, v, &held.chain)?;
     Ok(())
 }
 
 /// How long rows waited.
-fn put_waits<M: Machine>(alloc: Global, page: &mut Page, v: &View<M>) -> Result<(), ViewFault>
+fn put_waits<M: Machine>(
+    alloc: Global,
+    page: &mut Page,
+    v: &View<M>,
+    waits: WaitSums,
+) -> Result<(), ViewFault>
     requires closed { page.old.open_line ≡ [] }
     requires shown { IsShown (shown M.meaning v.now) }
-    requires bound { IsBoundBody (M.meaning v.now.machine.now) v.now.body.now }
-    requires run { IsRunOf (run_of (shown M.meaning v.now)) v.now.run.now.rows }
+    requires waits { AreSums (run_of (shown M.meaning v.now)) (times v.now.run.now.rows)
+        (v.now.iterations * length v.now.body.now) waits }
     ensures ok { OnOk result (page.new ≡ added page.old
         (lines (waited_lines (shown M.meaning v.now)))) }
     ensures long { IfErr result (Over page.old.room (length (added page.old
         (lines (waited_lines (shown M.meaning v.now)))).text)) }
 {
-    let sums = wait_sums(v.machine, v.body, v.iterations, v.run);
-    put_sums(alloc, page, sums.registers, sums.memory, sums.resources)?;
-    Ok(())
+    put_sums(alloc, page, waits.registers, waits.memory, waits.resources)
 }
 
 /// The sums of the waits, in cycles.

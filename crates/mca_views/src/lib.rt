@@ -48,7 +48,9 @@ mod totals;
 mod view;
 mod wait_times;
 
-pub use bottlenecks::{bottleneck, one_bottleneck, sequence_for, some_sequence, worked_bottleneck};
+pub use bottlenecks::{
+    HeldUp, bottleneck, held_up_for, one_bottleneck, some_sequence, worked_bottleneck,
+};
 pub use fault::ViewFault;
 pub use information::instruction_info;
 pub use page::Page;

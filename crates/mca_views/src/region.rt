@@ -2,6 +2,7 @@
 ghost use Rattle.std.specs.Prelude.{◌≡◌, ◌++◌, [], ◌∷◌, true, length, IfOk, OnOk, IfErr};
 ghost use Rattle.cycle_rules.specs.Bind.{IsBoundBody};
 ghost use Rattle.cycle_rules.specs.Run.{IsRunOf};
+ghost use Rattle.mca_views.specs.Bottleneck.{HasSums, sequence_of};
 ghost use Rattle.mca_views.specs.Fault.{Over};
 ghost use Rattle.mca_views.specs.Information.{information_lines};
 ghost use Rattle.mca_views.specs.Lines.{lines};
@@ -13,7 +14,7 @@ ghost use Rattle.mca_views.specs.Summary.{summary_lines};
 ghost use Rattle.mca_views.specs.Timeline.{timeline_lines};
 ghost use Rattle.mca_views.specs.WaitTimes.{wait_lines};
 
-use crate::bottlenecks::put_bottleneck;
+use crate::bottlenecks::{HeldUp, put_bottleneck};
 use crate::cells::digits;
 use crate::fault::ViewFault;
 use crate::information::put_information;
@@ -23,15 +24,14 @@ use crate::summaries::put_summary;
 use crate::timelines::put_timeline;
 use crate::view::View;
 use crate::wait_times::put_waits;
-use critical_chain::Chain;
 use machine_model::Machine;
 use mca_fixed::{Name, NoMemory};
 use mca_words::Options;
 use std::alloc::Global;
 
 /// The report of a region, on a page whose lines are whole: the number of the region, counted from 0,
-/// with its name, which is empty for none; then the summary, what held the run up where there is a chain to
-/// be shown (`sequence_for`), and the views that the options turn on, each behind an empty line.
+/// with its name, which is empty for none; then the summary, what held the run up where that is to be
+/// shown (`held_up_for`), and the views that the options turn on, each behind an empty line.
 ///
 /// # Errors
 /// `TooLong` where the page would have more bytes than its room, and `Memory`. What stands on the page
@@ -43,19 +43,20 @@ pub fn put_region<M: Machine>(
     name: &Name,
     v: &View<M>,
     o: &Options,
-    chain: &Option<Chain>,
+    held: &Option<HeldUp>,
 ) -> Result<(), ViewFault>
     requires closed { page.old.open_line ≡ [] }
     requires shown { IsShown (shown M.meaning v.now) }
     requires bound { IsBoundBody (M.meaning v.now.machine.now) v.now.body.now }
     requires run { IsRunOf (run_of (shown M.meaning v.now)) v.now.run.now.rows }
+    requires sums { HasSums (shown M.meaning v.now) held.now }
     ensures ok { OnOk result (page.new ≡ added page.old
-        (lines (region_lines number name.now o.now (shown M.meaning v.now) chain.now))) }
+        (lines (region_lines number name.now o.now (shown M.meaning v.now) (sequence_of held.now)))) }
     ensures long { IfErr result (Over page.old.room (length (added page.old
-        (lines (region_lines number name.now o.now (shown M.meaning v.now) chain.now))).text)) }
+        (lines (region_lines number name.now o.now (shown M.meaning v.now) (sequence_of held.now)))).text)) }
 {
     put_head(alloc, page, number, name)?;
-    put_run_part(alloc, page, v, chain)?;
+    put_run_part(alloc, page, v, held)?;
     put_information_part(alloc, page, o.instruction_info, v)?;
     put_pressure_part(alloc, page, o.resource_pressure, v)?;
     put_timeline_part(alloc, page, v, o)?;
@@ -103,43 +104,45 @@ fn put_run_part<M: Machine>(
     alloc: Global,
     page: &mut Page,
     v: &View<M>,
-    chain: &Option<Chain>,
+    held: &Option<HeldUp>,
 ) -> Result<(), ViewFault>
     requires closed { page.old.open_line ≡ [] }
     requires shown { IsShown (shown M.meaning v.now) }
     requires bound { IsBoundBody (M.meaning v.now.machine.now) v.now.body.now }
     requires run { IsRunOf (run_of (shown M.meaning v.now)) v.now.run.now.rows }
+    requires sums { HasSums (shown M.meaning v.now) held.now }
     ensures ok { OnOk result (page.new ≡ added page.old
-        (lines (run_part (shown M.meaning v.now) chain.now))) }
+        (lines (run_part (shown M.meaning v.now) (sequence_of held.now)))) }
     ensures long { IfErr result (Over page.old.room (length (added page.old
-        (lines (run_part (shown M.meaning v.now) chain.now))).text)) }
+        (lines (run_part (shown M.meaning v.now) (sequence_of held.now)))).text)) }
 {
     put_summary_part(alloc, page, v)?;
-    put_bottleneck_part(alloc, page, v, chain)?;
+    put_bottleneck_part(alloc, page, v, held)?;
     Ok(())
 }
 
-/// What held the run up, where there is a chain.
+/// What held the run up, where that is to be shown.
 fn put_bottleneck_part<M: Machine>(
     alloc: Global,
     page: &mut Page,
     v: &View<M>,
-    chain: &Option<Chain>,
+    held: &Option<HeldUp>,
 ) -> Result<(), ViewFault>
     requires closed { page.old.open_line ≡ [] }
     requires shown { IsShown (shown M.meaning v.now) }
     requires bound { IsBoundBody (M.meaning v.now.machine.now) v.now.body.now }
     requires run { IsRunOf (run_of (shown M.meaning v.now)) v.now.run.now.rows }
+    requires sums { HasSums (shown M.meaning v.now) held.now }
     ensures ok { OnOk result (page.new ≡ added page.old
-        (lines (bottleneck_part (shown M.meaning v.now) chain.now))) }
+        (lines (bottleneck_part (shown M.meaning v.now) (sequence_of held.now)))) }
     ensures long { IfErr result (Over page.old.room (length (added page.old
-        (lines (bottleneck_part (shown M.meaning v.now) chain.now))).text)) }
+        (lines (bottleneck_part (shown M.meaning v.now) (sequence_of held.now)))).text)) }
 {
-    let Some(chain) = chain else {
+    let Some(held) = held else {
         return Ok(());
     };
     page.put_line(b"")?;
-    put_bottleneck(alloc, page, v, chain)?;
+    put_bottleneck(alloc, page, v, held)?;
     Ok(())
 }
 

@@ -12,7 +12,8 @@ loop-j-init g c =
     let t : Table = times (g.R.Rows.table c.args.rows.now) in
     record {
       older = c.none-older.ensures run t;
-      size = ap length c.in_ok-waits.ensures.items;
+      sums = c.none-sums.ensures run t;
+      size = ap length c.in_ok-before.ensures.items;
       waits = λ j lt. absurd (omega (arith, lt));
     }
 
@@ -20,10 +21,11 @@ pub loop-j-preserved : goal.loop-j-preserved
 loop-j-preserved g c =
     let run : Input = g.R.Rows.input c.args.rows.now in
     let t : Table = times (g.R.Rows.table c.args.rows.now) in
-    let old : List Waits = c.loop-j.waits.items in
+    let old : List Waits = c.loop-j.before.items in
     record {
-      older = c.pass.ensures.older;
-      size = ap length c.in_ok-push.ensures.items ∙ length-append old (c.pass.result ∷ []) ∙ ap (λ n. n + 1) c.loop-j.invariant.size;
+      older = c.pass-row.ensures.older;
+      sums = c.with_row-sums.ensures;
+      size = ap length c.in_ok-push.ensures.items ∙ length-append old (c.pass-row.result.before ∷ []) ∙ ap (λ n. n + 1) c.loop-j.invariant.size;
       waits = λ j lt. subst (λ l. AreWaits run t j (waits_at l j)) (sym c.in_ok-push.ensures.items)
-          (all_pushed (λ n w. AreWaits run t n w) old c.pass.result _ c.loop-j.j c.loop-j.invariant.size c.loop-j.invariant.waits c.pass.ensures.waits j lt);
+          (all_pushed (λ n w. AreWaits run t n w) old c.pass-row.result.before _ c.loop-j.j c.loop-j.invariant.size c.loop-j.invariant.waits c.pass-row.ensures.waits.before j lt);
     }

@@ -4,7 +4,7 @@ use Rattle.cycle_rules.specs.Row.{Input, Table, times}
 use Rattle.dep_graph.specs.Blamed.{edges_along}
 use Rattle.dep_graph.specs.RunGraph.{IsIssueOrder}
 use Rattle.dep_graph.proofs.Forward.{edges_forward, edges_low}
-use Rattle.dep_graph.proofs.graph.graph_of.Goals as goal
+use Rattle.dep_graph.proofs.graph.waits_of.Goals as goal
 
 pub returns-clause-graph : goal.returns-clause-graph
 returns-clause-graph g c =

@@ -1,5 +1,7 @@
-use Rattle.std.proofs.Common.{◌≡◌, ◌*◌, map, sym, ◌∙◌, subst}
+use Rattle.std.proofs.Common.{◌≡◌, ◌*◌, map, sym, ◌∙◌, ap, subst}
 use Rattle.std.proofs.lemmas.List.{length-map}
+use Rattle.std.specs.Prelude.{IfOk}
+use Rattle.dep_graph.specs.RunGraph.{IsGraphOf}
 use Rattle.machine_model.specs.Meaning.{MachineMeaning}
 use Rattle.cycle_rules.specs.Bind.{row_of}
 use Rattle.cycle_rules.specs.Row.{Input, input, times}
@@ -7,13 +9,13 @@ use Rattle.cycle_rules.proofs.BoundRows.{body_is_bound}
 use Rattle.dep_graph.specs.WaitSums.{AreSums}
 use Rattle.dep_graph.specs.Walk.{IsSoundRun}
 use Rattle.dep_graph.proofs.Bodies.{sound_run}
-use Rattle.dep_graph.proofs.sums.wait_sums.Goals as goal
+use Rattle.dep_graph.proofs.graph.run_waits.Goals as goal
 
 pub make-rows-requires-clause-bound : goal.make-rows-requires-clause-bound
 make-rows-requires-clause-bound g c = body_is_bound g.M.Machine.UNITS g.M.Mask.UnitMask.SIZE (g.M.Machine.meaning c.args.machine.now) c.args.body.now (g.met.M.Machine.valid c.args.machine.now) c.requires.bound
 
-pub sums_of-requires : goal.sums_of-requires
-sums_of-requires g c =
+pub waits_of-requires-clause-run : goal.waits_of-requires-clause-run
+waits_of-requires-clause-run g c =
     let m : MachineMeaning = g.M.Machine.meaning c.args.machine.now in
     let run : Input = input m (map row_of c.args.body.now) c.args.iterations in
     let is : input (g.M.Machine.meaning c.make-rows.result.machine.now) (map row_of c.make-rows.result.body.now) c.make-rows.result.iterations ≡ run =
@@ -22,13 +24,26 @@ sums_of-requires g c =
     let sound : IsSoundRun run c.args.run.now.rows = sound_run g.M.Machine.UNITS g.M.Mask.UnitMask.SIZE m c.args.body.now c.args.iterations c.args.run.now.rows (g.met.M.Machine.valid c.args.machine.now) c.requires.bound c.requires.rows c.requires.run in
     subst (λ x. IsSoundRun x c.make-rows.result.table.now) (sym is) (subst (λ x. IsSoundRun run x) (sym table) sound)
 
-pub returns : goal.returns
-returns g c =
+pub waits_of-requires-clause-machine : goal.waits_of-requires-clause-machine
+waits_of-requires-clause-machine g c = ap g.M.Machine.meaning (sym c.make-rows.ensures.machine)
+
+pub returns-clause-waits : goal.returns-clause-waits
+returns-clause-waits g c =
     let m : MachineMeaning = g.M.Machine.meaning c.args.machine.now in
     let run : Input = input m (map row_of c.args.body.now) c.args.iterations in
     let is : input (g.M.Machine.meaning c.make-rows.result.machine.now) (map row_of c.make-rows.result.body.now) c.make-rows.result.iterations ≡ run =
     λ i. input (g.M.Machine.meaning (c.make-rows.ensures.machine i)) (map row_of (c.make-rows.ensures.body i)) (c.make-rows.ensures.iterations i) in
     let table : c.make-rows.result.table.now ≡ c.args.run.now.rows = c.make-rows.ensures.table ∙ c.as_slice.ensures in
-    subst (λ n. AreSums run (times c.args.run.now.rows) (c.args.iterations * n) c.sums_of.result) (length-map c.args.body.now row_of)
-    (subst (λ x. AreSums run (times x) run.rows c.sums_of.result) table
-    (subst (λ x. AreSums x (times c.make-rows.result.table.now) x.rows c.sums_of.result) is c.sums_of.ensures))
+    subst (λ x. IfOk c.waits_of.result (λ w. IsGraphOf run (times x) w.graph)) table
+    (subst (λ x. IfOk c.waits_of.result (λ w. IsGraphOf x (times c.make-rows.result.table.now) w.graph)) is c.waits_of.ensures.waits)
+
+pub returns-clause-sums : goal.returns-clause-sums
+returns-clause-sums g c =
+    let m : MachineMeaning = g.M.Machine.meaning c.args.machine.now in
+    let run : Input = input m (map row_of c.args.body.now) c.args.iterations in
+    let is : input (g.M.Machine.meaning c.make-rows.result.machine.now) (map row_of c.make-rows.result.body.now) c.make-rows.result.iterations ≡ run =
+    λ i. input (g.M.Machine.meaning (c.make-rows.ensures.machine i)) (map row_of (c.make-rows.ensures.body i)) (c.make-rows.ensures.iterations i) in
+    let table : c.make-rows.result.table.now ≡ c.args.run.now.rows = c.make-rows.ensures.table ∙ c.as_slice.ensures in
+    subst (λ n. IfOk c.waits_of.result (λ w. AreSums run (times c.args.run.now.rows) (c.args.iterations * n) w.sums)) (length-map c.args.body.now row_of)
+    (subst (λ x. IfOk c.waits_of.result (λ w. AreSums run (times x) run.rows w.sums)) table
+    (subst (λ x. IfOk c.waits_of.result (λ w. AreSums x (times c.make-rows.result.table.now) x.rows w.sums)) is c.waits_of.ensures.sums))
