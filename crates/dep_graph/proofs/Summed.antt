@@ -1,8 +1,8 @@
 -- Sums of waits, one row more at a time, and that they are low.
-use Rattle.std.proofs.Common.{zero, suc, ◌≡◌, ℕ, ◌+◌, ◌-◌, ◌*◌, ◌^◌, ◌<◌, ◌≤◌, List, refl, arith, ◌∙◌}
+use Rattle.std.proofs.Common.{zero, suc, ◌≡◌, ℕ, ◌+◌, ◌*◌, ◌^◌, ◌<◌, ◌≤◌, List, refl, arith, ◌∙◌}
 use Rattle.cycle_rules.specs.Below.{sum_below}
 use Rattle.cycle_rules.specs.Row.{Input, Table, times}
-use Rattle.cycle_rules.specs.Waits.{earliest, register_wait, memory_wait, resource_wait}
+use Rattle.cycle_rules.specs.Waits.{register_wait, memory_wait, resource_wait}
 use Rattle.cycle_rules.specs.declared.times.Times.{Times}
 use Rattle.cycle_rules.proofs.Below.{sum_more}
 use Rattle.dep_graph.specs.Peaks.{AreRowWaits}

@@ -4,6 +4,10 @@ ghost use Rattle.cycle_rules.specs.Row.{Input, Table, uops_of};
 ghost use Rattle.cycle_rules.specs.Dispatch.{fits_group};
 ghost use Rattle.machine_model.specs.Valid.{AreLimits};
 ghost use Rattle.dep_graph.specs.Walk.{IsFilled};
+ghost use Rattle.dep_graph.specs.declared.fill.TheConstants.{MOST_LEFT};
+
+/// More micro-ops than are ever left of rows that have dispatched.
+pub const MOST_LEFT: u64 = 65_536;
 
 /// What is left, in a cycle, of the rows that have dispatched.
 #[derive(Clone, Copy, Debug)]
@@ -32,7 +36,7 @@ fn most_left(is_open: bool, width: u64, uops: u64, begins: bool) -> u64
 fn cycles_for(uops: u64, width: u64) -> u64
     requires width { 1 ≤ width }
     requires wide { width ≤ 64 }
-    requires few { uops ≤ 65536 }
+    requires few { uops ≤ MOST_LEFT }
     ensures { result ≡ (uops + width - 1) / width }
 {
     if uops == 0 {
@@ -68,7 +72,7 @@ impl Fill {
         requires width { 1 ≤ width }
         requires wide { width ≤ 64 }
         requires uops { 1 ≤ uops }
-        requires few { self.now.left ≤ 65536 }
+        requires few { self.now.left ≤ MOST_LEFT }
         requires early { at < 2 ^ 42 }
         ensures from { (g : Input) (t : Table) (j : ℕ) → IsFilled g t j at self.now →
             g.machine.limits.width ≡ width → uops_of g j ≡ uops →
@@ -95,7 +99,7 @@ impl Fill {
 
     /// A row of so many micro-ops, which finds place, dispatches.
     pub fn join(&mut self, uops: u32, ends: bool)
-        requires few { self.old.left ≤ 65536 }
+        requires few { self.old.left ≤ MOST_LEFT }
         ensures { (g : Input) (t : Table) (j a : ℕ) → IsFilled g t j a self.old →
             AreLimits g.machine.limits → 1 ≤ uops → uops_of g j ≡ uops →
             (g.row j).ends_group ≡ ends →

@@ -15,8 +15,8 @@ ghost use Rattle.dep_graph.specs.Walk.{IsSoundRun};
 use crate::holders::Taker;
 use crate::order::{IssueOrder, issue_order};
 use crate::rows::{Rows, Run};
-use crate::unit_waits::unit_wait;
 use crate::sums::WaitSums;
+use crate::unit_waits::unit_wait;
 use crate::waits::{AllWaits, Wait, Waits, all_waits};
 use critical_chain::{Edge, EdgeKind, Graph};
 use cycle_rules::{Bound, Timeline};
@@ -95,11 +95,7 @@ pub fn run_waits<M: Machine>(
 }
 
 // The waits of some rows.
-fn waits_of<M: Machine, R: Rows>(
-    alloc: Global,
-    machine: &M,
-    rows: &R,
-) -> Result<RunWaits, NoMemory>
+fn waits_of<M: Machine, R: Rows>(alloc: Global, machine: &M, rows: &R) -> Result<RunWaits, NoMemory>
     requires run { IsSoundRun (R.input rows.now) (R.table rows.now) }
     requires machine { M.meaning machine.now ≡ (R.input rows.now).machine }
     ensures waits { IfOk result (λ waits. IsGraphOf (R.input rows.now) (times (R.table rows.now))

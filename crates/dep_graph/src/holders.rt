@@ -1,11 +1,10 @@
 //! Which row holds a unit, while the rows of a run go by in issue order.
-ghost use Rattle.std.specs.Prelude.{◌≡◌, ◌<◌, ◌≤◌, ◌+◌, ◌-◌, ◌^◌, ℕ, List, [], ◌∷◌, length, map, slice_index, take, true, ◌&&◌, nat_le, nat_lt, is_some, Bool, IfSome, MatchOption};
+ghost use Rattle.std.specs.Prelude.{◌≡◌, ◌<◌, ◌≤◌, ◌+◌, ◌-◌, ◌^◌, ℕ, List, [], ◌∷◌, length, map, slice_index, take, true, ◌&&◌, nat_le, nat_lt, is_some, Bool, IfSome};
 ghost use Rattle.std.specs.List.{list_all};
 ghost use Rattle.cycle_rules.specs.Bind.{row_of, IsBound};
 ghost use Rattle.cycle_rules.specs.Pick.{Taken, pick_units, taken_by};
 ghost use Rattle.cycle_rules.specs.Row.{times};
 ghost use Rattle.resource_units.specs.Stand.{StandsFor, machine_of};
-ghost use Rattle.unit_sets.specs.Members.{IsNext, NoneFrom};
 ghost use Rattle.dep_graph.specs.Blamed.{busy_in};
 ghost use Rattle.dep_graph.specs.Holders.{AreHolders, IsLast, IsTop, noted, taken_along, taker_at};
 ghost use Rattle.dep_graph.specs.RunGraph.{IsIssueOrder};
@@ -16,7 +15,7 @@ use cycle_rules::{Bound, Source};
 use machine_model::{Machine, Use};
 use resource_units::Units;
 use rv_isa::Reg;
-use unit_sets::UnitMask;
+use unit_sets::{UnitMask, next_member};
 
 /// The row that took a unit last, by its place in issue order, and the cycle in which it gives it
 /// back.
@@ -161,19 +160,6 @@ fn later(best: Option<u32>, counts: bool, place: u32) -> Option<u32>
     }
 }
 
-// The least unit of a set from `pos` on and below `end`.
-fn next_unit<K: UnitMask>(units: &K, pos: usize, end: usize) -> Option<usize>
-    requires within { pos < end }
-    requires fits { end ≤ K.SIZE }
-    ensures { MatchOption result (NoneFrom end (K.holds units.now) pos) (IsNext end
-        (K.holds units.now) pos) }
-{
-    match units.first_from(pos) {
-        Some(unit) if unit >= pos && unit < end => Some(unit),
-        _ => None,
-    }
-}
-
 // Whether a unit is held in a cycle, and by the last of the rows that have taken units.
 fn is_top(taker: Taker, taken: usize, c: u64) -> bool
     ensures held { result ≡ true → c < taker.until }
@@ -234,7 +220,7 @@ pub fn last_holder<M: Machine>(
     let mut best = None;
     let mut pos = 0;
     while pos < last.len() {
-        let Some(unit) = next_unit(&units, pos, last.len()) else {
+        let Some(unit) = next_member(&units, pos, last.len()) else {
             return best;
         };
         let taker = last[unit];

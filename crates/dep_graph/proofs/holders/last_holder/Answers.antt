@@ -10,12 +10,12 @@ loop-pos-preserved g c =
     let has : ℕ → Bool = (g.M.Machine.meaning c.args.machine.now).units c.args.r in
     let held : ℕ → Bool = λ u. nat_lt c.args.c (taker_at c.args.last.now u).until in
     let place : ℕ → ℕ = λ u. (taker_at c.args.last.now u).place in
-    let member : has c.in-Some-next_unit.unit ≡ true = sym (c.loop-pos.invariant.units c.in-Some-next_unit.unit) ∙ c.in-Some-next_unit.ensures.member in
-    let off : (u : ℕ) → c.loop-pos.pos ≤ u → u < c.in-Some-next_unit.unit → (has u && held u) ≡ false = λ u from below. ap (λ b. b && held u) (sym (c.loop-pos.invariant.units u) ∙ c.in-Some-next_unit.ensures.none u from below) in
+    let member : has c.in-Some-next_member.unit ≡ true = sym (c.loop-pos.invariant.units c.in-Some-next_member.unit) ∙ c.in-Some-next_member.ensures.member in
+    let off : (u : ℕ) → c.loop-pos.pos ≤ u → u < c.in-Some-next_member.unit → (has u && held u) ≡ false = λ u from below. ap (λ b. b && held u) (sym (c.loop-pos.invariant.units u) ∙ c.in-Some-next_member.ensures.none u from below) in
     record {
-      within = omega (arith, c.in-Some-next_unit.ensures.within);
-      best = c.later-best.ensures c.in-Some-next_unit.unit (λ u. has u && held u) place (ap (λ b. b && held c.in-Some-next_unit.unit) member) refl
-          (last_up_to c.loop-pos.pos c.in-Some-next_unit.unit (λ u. has u && held u) place c.loop-pos.best c.in-Some-next_unit.ensures.from off c.loop-pos.invariant.best);
+      within = omega (arith, c.in-Some-next_member.ensures.within);
+      best = c.later-best.ensures c.in-Some-next_member.unit (λ u. has u && held u) place (ap (λ b. b && held c.in-Some-next_member.unit) member) refl
+          (last_up_to c.loop-pos.pos c.in-Some-next_member.unit (λ u. has u && held u) place c.loop-pos.best c.in-Some-next_member.ensures.from off c.loop-pos.invariant.best);
       units = c.loop-pos.invariant.units;
     }
 

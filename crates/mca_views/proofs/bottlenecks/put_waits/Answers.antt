@@ -1,5 +1,4 @@
-use Rattle.std.proofs.Common.{◌≡◌, length, sym, ◌∙◌, ap}
-use Rattle.std.specs.Prelude.{IfErr, OnOk}
+use Rattle.std.proofs.Common.{◌≡◌, sym, ◌∙◌, ap}
 use Rattle.cycle_rules.specs.Below.{sum_below}
 use Rattle.cycle_rules.specs.Row.{times}
 use Rattle.cycle_rules.specs.Waits.{register_wait, memory_wait, resource_wait}

@@ -1,4 +1,4 @@
-use Rattle.std.proofs.Common.{◌≡◌, ◌<◌, ◌≤◌, ◌^◌, refl, arith}
+use Rattle.std.proofs.Common.{refl, arith}
 use Rattle.cycle_rules.specs.Row.{times}
 use Rattle.dep_graph.proofs.Summed.{row_low, sums_low, sums_more}
 use Rattle.dep_graph.proofs.sums.WaitSums.with_row.Goals as goal

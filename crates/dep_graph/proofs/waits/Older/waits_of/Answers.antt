@@ -1,4 +1,4 @@
-use Rattle.std.proofs.Common.{◌≡◌, ◌+◌, ◌-◌, ◌<◌, ◌^◌, arith, sym, ◌∙◌, ap, subst}
+use Rattle.std.proofs.Common.{◌≡◌, ◌+◌, ◌-◌, arith, sym, ◌∙◌, ap, subst}
 use Rattle.std.specs.Prelude.{max, if◌then◌else◌}
 use Rattle.cycle_rules.specs.CycleBound.{max_below}
 use Rattle.cycle_rules.specs.Row.{Input, Table, times}
@@ -20,8 +20,18 @@ overflow_sub-result g c =
     let from : c.earliest-from.result ≡ earliest run t c.args.j = c.earliest-from.ensures ∙ (λ i. if (c.requires.instruction i).reserved then (c.requires.at i).dispatch else (c.requires.at i).dispatch + 1) in
     let late : IsLate run t c.args.j (run.row c.args.j).reads c.times-late.result = subst (λ r. IsLate run t c.args.j r.reads c.times-late.result) c.requires.instruction c.times-late.ensures in
     let fence : IsPeak (pass_time run t c.args.j) c.args.j c.of_kind-fence.result = c.of_kind-fence.ensures run t c.args.j (ap (λ r. r.kind) (sym c.requires.instruction)) c.requires.older.fences in
-    omega (arith, c.max-ordered.ensures, c.max-ready.ensures, from, late.time_is, fence.time_is, ready_is run t c.args.j c.requires.run.run.each c.requires.row,
-    ordered_is run t c.args.j c.requires.run.run.each c.requires.row, (waits_sum run t c.args.j c.requires.run.run.each c.requires.row).2, ap (λ r. r.issue) c.requires.at)
+    omega (
+      arith,
+      c.max-ordered.ensures,
+      c.max-ready.ensures,
+      from,
+      late.time_is,
+      fence.time_is,
+      ready_is run t c.args.j c.requires.run.run.each c.requires.row,
+      ordered_is run t c.args.j c.requires.run.run.each c.requires.row,
+      (waits_sum run t c.args.j c.requires.run.run.each c.requires.row).2,
+      ap (λ r. r.issue) c.requires.at,
+    )
 
 pub returns : goal.returns
 returns g c =
