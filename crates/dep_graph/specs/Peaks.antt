@@ -10,6 +10,7 @@ use Rattle.dep_graph.specs.PassTimes.{read_time, reads_time, let_go}
 use Rattle.dep_graph.specs.Blamed.{register_blamed, memory_blamed}
 use Rattle.dep_graph.specs.declared.peak.Peak.{Peak}
 use Rattle.dep_graph.specs.declared.memory.Fences.{Fences}
+use Rattle.dep_graph.specs.declared.waits.KeptWaits.{KeptWaits}
 use Rattle.dep_graph.specs.declared.waits.Older.{Older}
 use Rattle.dep_graph.specs.declared.waits.RowWaits.{RowWaits}
 use Rattle.dep_graph.specs.declared.waits.Wait.{Wait}
@@ -68,6 +69,10 @@ pub record AreRowWaits (g : Input) (t : Table) (j : ℕ) (row : RowWaits) : Type
   pub before : AreWaits g t j row.before
   pub units : row.units ≡ resource_wait g t j
 
+-- waits as they are kept
+abbrev pub kept : KeptWaits → Waits
+kept k = record { register = record { cycles = k.register; row = k.register_row }; memory = record { cycles = k.memory; row = k.memory_row } }
+
 -- the waits of a row in a list of them
-abbrev pub waits_at : List Waits → ℕ → Waits
-waits_at waits j = slice_index_or waits j (record { register = record { cycles = 0; row = 0 }; memory = record { cycles = 0; row = 0 } })
+abbrev pub waits_at : List KeptWaits → ℕ → Waits
+waits_at waits j = kept (slice_index_or waits j (record { register = 0; memory = 0; register_row = 0; memory_row = 0 }))

@@ -1,5 +1,5 @@
 //! The waits of a run as edges.
-ghost use Rattle.std.specs.Prelude.{◌≡◌, ◌<◌, ◌≤◌, ◌*◌, ◌++◌, ℕ, List, length, map, slice_index, IfOk};
+ghost use Rattle.std.specs.Prelude.{◌≡◌, ◌<◌, ◌≤◌, ◌*◌, ◌++◌, ℕ, List, [], length, map, slice_index, IfOk};
 ghost use Rattle.cycle_rules.specs.Bind.{row_of, IsBoundBody};
 ghost use Rattle.cycle_rules.specs.Row.{input, times};
 ghost use Rattle.cycle_rules.specs.Run.{IsRun};
@@ -17,7 +17,7 @@ use crate::order::{IssueOrder, issue_order};
 use crate::rows::{Rows, Run};
 use crate::sums::WaitSums;
 use crate::unit_waits::unit_wait;
-use crate::waits::{AllWaits, Wait, Waits, all_waits};
+use crate::waits::{AllWaits, KeptWaits, Wait, all_waits};
 use critical_chain::{Edge, EdgeKind, Graph};
 use cycle_rules::{Bound, Timeline};
 use machine_model::Machine;
@@ -105,8 +105,13 @@ fn waits_of<M: Machine, R: Rows>(alloc: Global, machine: &M, rows: &R) -> Result
         (R.input rows.now).rows waits.sums) }
 {
     let IssueOrder { order, slots } = issue_order(alloc, rows)?;
-    let AllWaits { before, sums } = all_waits(alloc, rows)?;
-    let edges = all_edges(alloc, machine, rows, &order, &slots, &before)?;
+    let AllWaits {
+        before,
+        sums,
+        count,
+    } = all_waits(alloc, rows)?;
+    let room = Vec::with_capacity(alloc, count)?;
+    let edges = all_edges(alloc, machine, rows, &order, &slots, &before, room)?;
     let graph = Graph {
         rows: rows.count() as u32,
         order: Items::from_vec(order),
@@ -131,19 +136,22 @@ fn push_wait(edges: &mut Vec<Edge>, kind: EdgeKind, row: u32, wait: Wait) -> Res
     Ok(())
 }
 
-// The edges of all waits, by the rows in issue order and what they waited for before units.
+// The edges of all waits, by the rows in issue order and what they waited for before units. `edges`
+// has none so far, but room for them.
 fn all_edges<M: Machine, R: Rows>(
     alloc: Global,
     machine: &M,
     rows: &R,
     order: &[u32],
     slots: &[u64],
-    waits: &[Waits],
+    waits: &[KeptWaits],
+    edges: Vec<Edge>,
 ) -> Result<Vec<Edge>, NoMemory>
     requires run { IsSoundRun (R.input rows.now) (R.table rows.now) }
     requires machine { M.meaning machine.now ≡ (R.input rows.now).machine }
     requires order { IsIssueOrder (R.input rows.now) (times (R.table rows.now)) order.now }
     requires slots { AreSlots (R.input rows.now) (times (R.table rows.now)) slots.now }
+    requires none { edges.items ≡ [] }
     requires size { length waits.now ≡ (R.input rows.now).rows }
     requires waits { (j : ℕ) → j < (R.input rows.now).rows →
         AreWaits (R.input rows.now) (times (R.table rows.now)) j (waits_at waits.now j) }
@@ -153,25 +161,26 @@ fn all_edges<M: Machine, R: Rows>(
     let mut units = Units::make(alloc, machine)?;
     let mut last = vec![in alloc; Taker { place: 0, until: 0 }; M::UNITS]?;
     edges_in_order(
-        alloc, machine, rows, &mut units, &mut last, order, slots, waits,
+        machine, rows, &mut units, &mut last, order, slots, waits, edges,
     )
 }
 
 // The same, with what is kept of the units, of which none has been taken.
 fn edges_in_order<M: Machine, R: Rows>(
-    alloc: Global,
     machine: &M,
     rows: &R,
     units: &mut Units<M>,
     last: &mut [Taker],
     order: &[u32],
     slots: &[u64],
-    waits: &[Waits],
+    waits: &[KeptWaits],
+    edges: Vec<Edge>,
 ) -> Result<Vec<Edge>, NoMemory>
     requires run { IsSoundRun (R.input rows.now) (R.table rows.now) }
     requires machine { M.meaning machine.now ≡ (R.input rows.now).machine }
     requires order { IsIssueOrder (R.input rows.now) (times (R.table rows.now)) order.now }
     requires slots { AreSlots (R.input rows.now) (times (R.table rows.now)) slots.now }
+    requires none { edges.items ≡ [] }
     requires size { length waits.now ≡ (R.input rows.now).rows }
     requires waits { (j : ℕ) → j < (R.input rows.now).rows →
         AreWaits (R.input rows.now) (times (R.table rows.now)) j (waits_at waits.now j) }
@@ -180,11 +189,11 @@ fn edges_in_order<M: Machine, R: Rows>(
     ensures { IfOk result (λ edges. edges.items ≡ edges_along (R.input rows.now)
         (times (R.table rows.now)) order.now) }
 {
-    let mut edges = Vec::new(alloc);
+    let mut edges = edges;
     let mut taken = 0;
     for i in 0..order.len() {
         let row = order[i];
-        let before = waits[row as usize];
+        let before = waits[row as usize].waits();
         push_wait(&mut edges, EdgeKind::Register, row, before.register)?;
         push_wait(&mut edges, EdgeKind::Memory, row, before.memory)?;
         let wait = unit_wait(

@@ -2,7 +2,7 @@
 ghost use Rattle.std.specs.Prelude.{◌≡◌, ◌<◌, ◌≤◌, ◌+◌, ◌-◌, ◌^◌, ℕ, length, IfOk, if◌then◌else◌};
 ghost use Rattle.cycle_rules.specs.Bind.{row_of, IsBound};
 ghost use Rattle.cycle_rules.specs.Row.{Input, Table, times};
-ghost use Rattle.dep_graph.specs.Peaks.{AreOlder, AreRowWaits, AreWaits, waits_at};
+ghost use Rattle.dep_graph.specs.Peaks.{AreOlder, AreRowWaits, AreWaits, kept, waits_at};
 ghost use Rattle.dep_graph.specs.WaitSums.{AreSums};
 ghost use Rattle.dep_graph.specs.Walk.{IsSoundRun};
 
@@ -29,6 +29,45 @@ pub struct Waits {
     pub memory: Wait,
 }
 
+/// The same in less memory: the fields of `register` and those of `memory`.
+#[derive(Clone, Copy, Debug)]
+pub struct KeptWaits {
+    register: u64,
+    memory: u64,
+    register_row: u32,
+    memory_row: u32,
+}
+
+impl KeptWaits {
+    // Keeps waits.
+    fn of(waits: Waits) -> KeptWaits
+        ensures { kept result ≡ waits }
+    {
+        KeptWaits {
+            register: waits.register.cycles,
+            memory: waits.memory.cycles,
+            register_row: waits.register.row,
+            memory_row: waits.memory.row,
+        }
+    }
+
+    /// The waits that are kept.
+    pub fn waits(self) -> Waits
+        ensures { result ≡ kept self }
+    {
+        Waits {
+            register: Wait {
+                cycles: self.register,
+                row: self.register_row,
+            },
+            memory: Wait {
+                cycles: self.memory,
+                row: self.memory_row,
+            },
+        }
+    }
+}
+
 /// The waits of a row.
 #[derive(Clone, Copy, Debug)]
 pub struct RowWaits {
@@ -41,8 +80,10 @@ pub struct RowWaits {
 #[derive(Drop)]
 pub struct AllWaits {
     /// What each waited for before it waited for units.
-    pub before: Vec<Waits>,
+    pub before: Vec<KeptWaits>,
     pub sums: WaitSums,
+    /// How many waits there are, of rows for one thing.
+    pub count: usize,
 }
 
 // The first cycle in which a row may issue at all.
@@ -51,6 +92,19 @@ fn earliest(reserved: bool, dispatch: u64) -> u64
     ensures { result ≡ (if reserved then dispatch else dispatch + 1) }
 {
     if reserved { dispatch } else { dispatch + 1 }
+}
+
+// 1 for a wait above 0, else 0.
+fn one_if(cycles: u64) -> usize {
+    if cycles > 0 { 1 } else { 0 }
+}
+
+// How many of the waits of a row are above 0, and so many more. Room for edges is taken by it, and
+// nothing else rests on it.
+fn and_more(row: RowWaits, more: usize) -> usize {
+    let registers = more.saturating_add(one_if(row.before.register.cycles));
+    let accesses = registers.saturating_add(one_if(row.before.memory.cycles));
+    accesses.saturating_add(one_if(row.units))
 }
 
 // What is waited from one cycle on until what comes last.
@@ -139,11 +193,17 @@ pub fn all_waits<R: Rows>(alloc: Global, rows: &R) -> Result<AllWaits, NoMemory>
 {
     let mut older = Older::none();
     let mut sums = WaitSums::none();
+    let mut count = 0;
     let mut before = Vec::with_capacity(alloc, rows.count())?;
     for j in 0..rows.count() {
         let row = older.pass(rows, j);
         sums = sums.with_row(rows, row, j);
-        before.push(row.before)?;
+        count = and_more(row, count);
+        before.push(KeptWaits::of(row.before))?;
     }
-    Ok(AllWaits { before, sums })
+    Ok(AllWaits {
+        before,
+        sums,
+        count,
+    })
 }

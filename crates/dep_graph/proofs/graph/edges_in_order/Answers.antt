@@ -1,4 +1,4 @@
-use Rattle.std.proofs.Common.{◌≡◌, ◌++◌, ◌<◌, ℕ, List, arith, sym, ◌∙◌, ap}
+use Rattle.std.proofs.Common.{◌≡◌, ◌++◌, ◌<◌, ℕ, List, arith, sym, ◌∙◌, ap, subst}
 use Rattle.std.specs.Prelude.{slice_index}
 use Rattle.std.proofs.lemmas.List.{take_all}
 use Rattle.critical_chain.specs.declared.graph.Edge.{Edge}
@@ -6,7 +6,7 @@ use Rattle.critical_chain.specs.declared.graph.EdgeKind.TheVariants.{Register, M
 use Rattle.cycle_rules.specs.Row.{Input, Table, times}
 use Rattle.cycle_rules.specs.Waits.{register_wait, memory_wait}
 use Rattle.dep_graph.specs.Blamed.{edges_along, edges_to, register_blamed, memory_blamed}
-use Rattle.dep_graph.specs.Peaks.{AreWaits, waits_at}
+use Rattle.dep_graph.specs.Peaks.{AreWaits}
 use Rattle.dep_graph.specs.Taking.{wait_edge}
 use Rattle.dep_graph.specs.declared.waits.Waits.{Waits}
 use Rattle.dep_graph.proofs.Forward.{edge_wait, along_more, three_pushed}
@@ -18,8 +18,8 @@ loop-i-preserved g c =
     let t : Table = times (g.R.Rows.table c.args.rows.now) in
     let j : ℕ = slice_index c.args.order.now c.loop-i.i in
     let lj : j < run.rows = c.requires.order.all.below c.loop-i.i (omega (arith, c.loop-i-test.true, c.requires.order.all.rows)) in
-    let before : Waits = waits_at c.args.waits.now j in
-    let waits : AreWaits run t j before = c.requires.waits j lj in
+    let before : Waits = c.waits-before.result in
+    let waits : AreWaits run t j before = subst (λ w. AreWaits run t j w) (sym c.waits-before.ensures) (c.requires.waits j lj) in
     let old : List Edge = c.loop-i.edges.items in
     let a : List Edge = wait_edge Register j before.register in
     let b : List Edge = wait_edge Memory j before.memory in
