@@ -1,7 +1,7 @@
 -- The greatest of fractions is one of them, and none is above it.
-use Rattle.std.proofs.Common.{zero, suc, ◌≡◌, ℕ, ◌*◌, ◌<◌, ◌≤◌, ◌⊎◌, inl, inr, arith, subst, sym, ap, ◌∙◌, refl, Bool, true, false, mul-le-mul_right, le_of_mul-le-mul_right}
-use Rattle.std.specs.Prelude.{nat_lt, if◌then◌else◌}
-use Rattle.std.proofs.lemmas.Bool.{cases_lt, cases_Bool}
+use Rattle.std.proofs.Common.{zero, suc, ◌≡◌, ℕ, ◌*◌, ◌<◌, ◌≤◌, inl, inr, arith, subst, sym, refl, Bool, true, false, mul-le-mul_right, le_of_mul-le-mul_right}
+use Rattle.std.specs.Prelude.{if◌then◌else◌}
+use Rattle.std.proofs.lemmas.Bool.{cases_lt}
 use Rattle.std.proofs.lemmas.Bool.Decides.{nat_tests}
 use Rattle.mca_fixed.specs.declared.decimals.Frac.{Frac}
 use Rattle.cycle_rules.specs.Totals.{is_less, greater, greatest, AreFractions, IsOneOf}

@@ -6,7 +6,7 @@ ghost use Rattle.cycle_rules.specs.Run.{total_of};
 use mca_fixed::Items;
 
 /// How a unit is written where there is none.
-pub const NO_UNIT: u16 = 65_535;
+pub const NO_UNIT: u16 = u16::MAX;
 
 /// The cycles of one row, an instruction in one iteration, counted from 0.
 #[derive(Clone, Copy, Debug, PartialEq, Eq)]

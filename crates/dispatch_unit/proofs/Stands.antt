@@ -1,5 +1,5 @@
 -- What a group keeps of its rows answers for them, and stays what is kept.
-use Rattle.std.proofs.Common.{zero, suc, ◌≡◌, ℕ, ◌+◌, ◌-◌, ◌*◌, ◌<◌, ◌≤◌, inl, inr, List, [], ◌∷◌, ◌++◌, arith, sym, ◌∙◌, ap, refl, Bool, true, false, ◌&&◌, ◌||◌, not, min}
+use Rattle.std.proofs.Common.{zero, suc, ◌≡◌, ℕ, ◌+◌, ◌-◌, ◌*◌, ◌^◌, ◌<◌, ◌≤◌, inl, inr, List, [], ◌∷◌, ◌++◌, arith, sym, ◌∙◌, ap, refl, Bool, true, false, ◌&&◌, ◌||◌, not, min}
 use Rattle.std.specs.Prelude.{nat_lt, nat_le, nat_eq}
 use Rattle.std.specs.List.{All, sum_by}
 use Rattle.std.proofs.lemmas.Bool.Decides.{nat_tests}
@@ -104,7 +104,7 @@ kept_later w c d left o rows some later h =
 pub place_agrees : (w c left uops : ℕ) (o begins : Bool) (these those : List Dispatched) → AreKept w c left o these → AreKept w c left o those → has_place w c these uops begins ≡ true → has_place w c those uops begins ≡ true
 place_agrees w c left uops o begins these those a b place = place_is w c left uops o begins those b ∙ sym (place_is w c left uops o begins these a) ∙ place
 
-pub left_few : (w c left uops : ℕ) (o : Bool) (rows : List Dispatched) → 1 ≤ w → w ≤ 64 → left ≤ 65535 → uops ≤ 65535 → AreKept w c left o rows → has_place w c rows uops false ≡ true → left + uops ≤ 65535
+pub left_few : (w c left uops : ℕ) (o : Bool) (rows : List Dispatched) → 1 ≤ w → w ≤ 64 → left < 2 ^ 16 → uops < 2 ^ 16 → AreKept w c left o rows → has_place w c rows uops false ≡ true → left + uops < 2 ^ 16
 left_few w c left uops o rows some few low small h place =
     let fits : (min left w + min uops w ≤ w) × (w < uops → min left w ≡ 0) = joined w left uops (first_true _ _ (sym (place_is w c left uops o false rows h) ∙ place)) in
     let sum : min left w + min uops w ≤ w = fits.0 in

@@ -15,7 +15,7 @@ pub struct Group {
     is_open: bool,
     ghost low: { 1 ≤ width },
     ghost high: { width ≤ 64 },
-    ghost few: { left ≤ 65535 },
+    ghost few: { left < 2 ^ 16 },
     ghost early: { cycle < 2 ^ 42 },
 }
 

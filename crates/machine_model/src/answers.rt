@@ -1,7 +1,7 @@
 //! What a machine answers of an opcode and of a unit.
 
 /// How a class of reads is written where there is none.
-pub const NO_CLASS: u16 = 65_535;
+pub const NO_CLASS: u16 = u16::MAX;
 
 /// The resource that a unit belongs to.
 #[derive(Clone, Copy, Debug, PartialEq, Eq)]

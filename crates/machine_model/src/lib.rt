@@ -16,7 +16,7 @@ pub use answers::{Binding, ClassAnswer, NO_CLASS, UnitOwner};
 pub use facts::{FileShare, Use, WriteFacts};
 pub use fixed::{Dual, Fixed, Quad, Tiny};
 pub use laws::{one_use_order, unit_owners};
-pub use limits::{Limits, MOST_CYCLES, MOST_FILE_REGISTERS};
+pub use limits::{Limits, MOST_CYCLES};
 pub use machine::Machine;
 pub use rv_isa::Kind;
 pub use tuning::Tuning;

@@ -3,9 +3,6 @@
 /// The most cycles of a latency, and for which a use holds its unit.
 pub const MOST_CYCLES: u32 = 1_000_000;
 
-/// The most physical registers of a register file.
-pub const MOST_FILE_REGISTERS: u32 = 65_536;
-
 /// The widths and bounds of a machine.
 #[derive(Clone, Copy, Debug, PartialEq, Eq)]
 pub struct Limits {

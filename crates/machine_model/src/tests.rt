@@ -1,5 +1,6 @@
 //! What a user sees of a machine, by calls that know only that it is one.
 use crate::{ClassAnswer, Dual, Limits, Machine, Quad, Tiny, Tuning, UnitOwner, WriteFacts};
+use mca_fixed::{MOST_ENTRIES, MOST_REGISTERS};
 use rv_isa::Op;
 use std::test::Fail;
 use unit_sets::UnitMask;
@@ -161,13 +162,13 @@ fn a_tuning_replaces_what_it_gives(rt: HostRuntime) -> Result<(), Fail> {
     assert_eq!(rt; Quad::make(&plain).limits(), quad);
     let tuned = Limits {
         width: 64,
-        loads: 4096,
+        loads: MOST_ENTRIES,
         stores: 1,
-        registers: 65536,
+        registers: MOST_REGISTERS,
         no_alias: false,
         ..quad
     };
-    let most = Tuning::new(64, 65536, 4096, 1, false);
+    let most = Tuning::new(64, MOST_REGISTERS, MOST_ENTRIES, 1, false);
     assert_eq!(rt; Quad::make(&most).limits(), tuned);
     Ok(())
 }

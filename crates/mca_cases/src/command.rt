@@ -64,11 +64,14 @@ fn set(alloc: Global, device: &mut Device, line: &str) -> Result<(), Fault> {
     Ok(())
 }
 
+// More bytes than the output of any case.
+const AMPLE: usize = 1 << 16;
+
 /// How the device of a part behaves: without the part, with ample room and no failing call.
 fn read_device(alloc: Global, case: &Case, name: &str) -> Result<Device, Fault> {
     let mut device = Device {
-        room: 65_536,
-        take: 65_536,
+        room: AMPLE,
+        take: AMPLE,
         fails: Vec::new(alloc),
     };
     if case.find(name).is_some() {

@@ -5,7 +5,7 @@ ghost use Rattle.rv_isa.specs.Instruction.{is_lawful};
 
 use crate::fault::{Fault, wrong};
 use machine_model::Tuning;
-use mca_fixed::MOST_TEXT_BYTES;
+use mca_fixed::{MOST_ENTRIES, MOST_REGISTERS, MOST_TEXT_BYTES};
 use mca_words::Options;
 use rv_asm::{AsmText, ItemRef, read_asm};
 use rv_isa::{Instr, is_lawful};
@@ -15,12 +15,34 @@ use std::alloc::Global;
 
 /// What the options of a command change of a machine.
 pub(crate) fn tuning(alloc: Global, options: &Options) -> Result<Tuning, Fault> {
-    let registers = options.register_file_size;
-    let (loads, stores) = (options.lqueue, options.squeue);
-    if options.dispatch > 64 || registers > 65_536 || loads > 4096 || stores > 4096 {
+    tuning_of(
+        alloc,
+        options.dispatch,
+        options.register_file_size,
+        options.lqueue,
+        options.squeue,
+        options.noalias,
+    )
+}
+
+/// A dispatch width, registers, entries of the load queue and of the store queue, 0 for the machine's own, and whether
+/// a load may pass an older store.
+pub(crate) fn tuning_of(
+    alloc: Global,
+    dispatch: u32,
+    registers: u32,
+    loads: u32,
+    stores: u32,
+    no_alias: bool,
+) -> Result<Tuning, Fault> {
+    if dispatch > 64
+        || registers > MOST_REGISTERS
+        || loads > MOST_ENTRIES
+        || stores > MOST_ENTRIES
+    {
         return Err(wrong(alloc, "out of range", "options"));
     }
-    Ok(Tuning::new(options.dispatch, registers, loads, stores, options.noalias))
+    Ok(Tuning::new(dispatch, registers, loads, stores, no_alias))
 }
 
 /// The machine of a table.

@@ -9,7 +9,7 @@ use crate::case::Case;
 use crate::fault::{Fault, wrong};
 use crate::findings::Findings;
 use crate::inputs::{code, table_machine, tuning};
-use cycle_rules::{Bound, Field, Timeline, Times, check_run};
+use cycle_rules::{Bound, Field, NO_UNIT, Timeline, Times, check_run};
 use machine_model::{Dual, Machine, Quad, Tiny};
 use mca_fixed::{Items, MOST_REGION_INSTRUCTIONS, MOST_ROWS};
 use mca_words::{Options, read_words};
@@ -62,8 +62,8 @@ fn set(alloc: Global, row: &mut Times, field: &str, value: u64) -> Result<(), Fa
         "issue" => row.issue = value,
         "complete" => row.complete = value,
         "retire" => row.retire = value,
-        "unit" => row.units[0] = value.min(65_535) as u16,
-        "second-unit" => row.units[1] = value.min(65_535) as u16,
+        "unit" => row.units[0] = value.min(NO_UNIT as u64) as u16,
+        "second-unit" => row.units[1] = value.min(NO_UNIT as u64) as u16,
         _ => return Err(wrong(alloc, "unknown field", field)),
     }
     Ok(())

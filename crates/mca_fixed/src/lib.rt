@@ -14,7 +14,8 @@ mod text;
 pub use decimals::{Frac, decimal};
 pub use items::Items;
 pub use limits::{
-    MOST_REGION_INSTRUCTIONS, MOST_REGIONS, MOST_REPORT_BYTES, MOST_ROWS, MOST_TEXT_BYTES,
+    MOST_ENTRIES, MOST_REGION_INSTRUCTIONS, MOST_REGIONS, MOST_REGISTERS, MOST_REPORT_BYTES,
+    MOST_ROWS, MOST_TEXT_BYTES, MOST_UNITS,
 };
 pub use memory::NoMemory;
 pub use name::Name;

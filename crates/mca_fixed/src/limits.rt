@@ -12,5 +12,14 @@ pub const MOST_ROWS: u64 = 1_048_576;
 /// The most regions of a text.
 pub const MOST_REGIONS: usize = 64;
 
+/// The most registers of a register file, and the most that a run may have written and not yet retired.
+pub const MOST_REGISTERS: u32 = 65_536;
+
+/// The most entries of a reorder buffer, of the load queue, of the store queue and of a resource's buffer.
+pub const MOST_ENTRIES: u32 = 4_096;
+
+/// The most units of all resources together.
+pub const MOST_UNITS: usize = 256;
+
 /// The most bytes of a report.
 pub const MOST_REPORT_BYTES: usize = 67_108_864;

@@ -67,10 +67,10 @@ unfolding total_uops
 uops_of_rows m body iterations = mul_comm (body_uops body) iterations
     ∙ sym (sum_repeated iterations (length (map row_of body)) (λ k. (get_or (map row_of body) k no_row).uops) ∙ ap (λ n. iterations * n) (uops_of_body body))
 
-pub uops_fit : (uops n iterations : ℕ) → uops ≤ n * 65535 → iterations * n ≤ 1048576 → Fits w64 (uops * iterations)
+pub uops_fit : (uops n iterations : ℕ) → uops ≤ n * 65536 → iterations * n ≤ 1048576 → Fits w64 (uops * iterations)
 uops_fit uops n iterations low few =
-    let le : uops * iterations ≤ n * 65535 * iterations = mul-le-mul_right iterations low in
-    let e : n * 65535 * iterations ≡ 65535 * (iterations * n) = omega arith in
+    let le : uops * iterations ≤ n * 65536 * iterations = mul-le-mul_right iterations low in
+    let e : n * 65536 * iterations ≡ 65536 * (iterations * n) = omega arith in
     omega (arith, le, e, few)
 
 -- Entries of a body, and units

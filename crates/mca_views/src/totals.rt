@@ -79,7 +79,7 @@ pub(crate) fn total_uops(body: &[Bound], iterations: u32) -> u64
 fn body_uops(body: &[Bound]) -> u64
     requires few { length body.now ≤ MOST_ROWS }
     ensures is { result ≡ body_uops body.now }
-    ensures low { result ≤ length body.now * 65535 }
+    ensures low { result ≤ length body.now * 2 ^ 16 }
 {
     let mut sum = 0;
     for b in body {

@@ -2,7 +2,7 @@
 ghost use Rattle.std.specs.Prelude.{◌≡◌, map};
 ghost use Rattle.mca_words.specs.Table.{option_row, form_in, form_of, default_number, default_truth};
 
-use mca_fixed::MOST_ROWS;
+use mca_fixed::{MOST_ENTRIES, MOST_REGISTERS, MOST_ROWS};
 
 /// What the value of an option is, and its default.
 #[derive(Clone, Copy, Debug, PartialEq, Eq)]
@@ -41,9 +41,9 @@ pub(crate) const TABLE: [Row; 15] = rows![
     "mcpu": MachineName;
     "iterations": NumberUpTo(MOST_ROWS as u32, 100);
     "dispatch": NumberUpTo(64, 0);
-    "register-file-size": NumberUpTo(65_536, 0);
-    "lqueue": NumberUpTo(4_096, 0);
-    "squeue": NumberUpTo(4_096, 0);
+    "register-file-size": NumberUpTo(MOST_REGISTERS, 0);
+    "lqueue": NumberUpTo(MOST_ENTRIES, 0);
+    "squeue": NumberUpTo(MOST_ENTRIES, 0);
     "noalias": TruthValue(true);
     "instruction-info": TruthValue(true);
     "resource-pressure": TruthValue(true);

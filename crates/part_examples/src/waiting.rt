@@ -3,7 +3,7 @@ ghost use Rattle.std.specs.Prelude.{◌≡◌};
 
 use cycle_rules::{Bound, Source};
 use issue_queues::Queues;
-use machine_model::{Fixed, Kind, Machine, Tuning, Use};
+use machine_model::{Fixed, Kind, Machine, NO_CLASS, Tuning, Use};
 use mca_fixed::NoMemory;
 use rv_isa::{Op, Reg};
 use std::alloc::Global;
@@ -14,7 +14,7 @@ fn no_use() -> Bound
 {
     let none = Source {
         reg: Reg::zero(),
-        read: 65_535,
+        read: NO_CLASS,
     };
     Bound {
         op: Op::Addi,

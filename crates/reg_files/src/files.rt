@@ -2,6 +2,7 @@
 ghost use Rattle.std.specs.Prelude.{◌≡◌, ◌<◌, ◌≤◌, ◌+◌, ◌-◌, ◌^◌, ℕ, List, [], ◌∷◌, ◌++◌, length, map, get_or, true, ◌||◌, nat_eq, nat_lt, ◌&&◌, IfOk, None, if◌then◌else◌};
 ghost use Rattle.std.specs.List.{count_by, range_with_len};
 ghost use Rattle.machine_model.specs.Meaning.{MachineMeaning};
+ghost use Rattle.mca_fixed.specs.declared.limits.TheConstants.{MOST_ENTRIES};
 ghost use Rattle.reg_files.specs.Shape.{IsShape, is_share, fits, share_fits, with_share, less_share, cost_of};
 
 use machine_model::{FileShare, Machine};
@@ -69,7 +70,7 @@ impl Files {
     /// flight. The work is constant.
     pub fn take(&mut self, rd: Reg)
         requires { (m : MachineMeaning) × (writes : List ℕ) × (StandsFor m self.old writes)
-            × (has_room m writes rd ≡ true) × (length writes < 4096) }
+            × (has_room m writes rd ≡ true) × (length writes < MOST_ENTRIES) }
         ensures { (m : MachineMeaning) (writes : List ℕ) → StandsFor m self.old writes →
             StandsFor m self.new (writes ++ rd ∷ []) }
     {

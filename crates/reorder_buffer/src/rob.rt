@@ -1,6 +1,7 @@
 //! The rows in flight, in program order, in a ring that takes its memory once.
 ghost use Rattle.std.specs.Prelude.{◌≡◌, ◌≤◌, [], ◌∷◌, ◌++◌, true, drop, slice_get, IfOk};
 ghost use Rattle.circular_buffer.specs.Buffer.{buffer};
+ghost use Rattle.mca_fixed.specs.declared.limits.TheConstants.{MOST_ENTRIES};
 ghost use Rattle.reorder_buffer.specs.Rob.{has_room};
 
 use circular_buffer::HeapCircularBuffer;
@@ -42,7 +43,7 @@ impl Rob {
     /// An empty buffer for `size` micro-ops, at most 4,096. It takes all the memory that the buffer ever
     /// needs.
     pub fn make(alloc: Global, size: u32) -> Result<Rob, NoMemory>
-        requires { size ≤ 4096 }
+        requires { size ≤ MOST_ENTRIES }
         ensures { IfOk result (λ rob. rob ≡ buffer [] size) }
     {
         // An entry holds one micro-op at least, so there are at most `size` entries.

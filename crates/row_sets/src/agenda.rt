@@ -1,6 +1,7 @@
 //! The cycles that rows in flight wait for.
 ghost use Rattle.std.specs.Prelude.{◌≡◌, ℕ, ◌≤◌, ◌<◌, ◌+◌, ◌*◌, ◌/◌, ◌%◌, ◌^◌, length, true, false, Some, None, slice_index, nat_lt, IfSome, MatchOption, if◌then◌else◌};
 ghost use Rattle.unit_sets.specs.Members.{in_word, NoneFrom};
+ghost use Rattle.row_sets.specs.declared.agenda.TheConstants.{PLACES};
 ghost use Rattle.row_sets.specs.Kept.{is_waiting, IsDue, IsFirstOf, IsSoonest, IsIndex, NoneWaitsIn};
 ghost use Rattle.row_sets.specs.Rows.{row_at};
 
@@ -8,6 +9,9 @@ use crate::bits::with_member;
 use mca_fixed::NoMemory;
 use std::alloc::Global;
 use unit_sets::{UnitMask, next_in};
+
+/// How many rows may be in flight. The place of a row is its number modulo this.
+pub(crate) const PLACES: usize = 4_096;
 
 /// For each of the rows in flight at most one cycle that it waits for.
 #[derive(Drop)]
@@ -23,7 +27,7 @@ pub struct Agenda {
     // The place of the row whose cycle comes first.
     first: Option<usize>,
     ghost words_size: { length words.items ≡ 64 },
-    ghost times_size: { length times.items ≡ 4096 },
+    ghost times_size: { length times.items ≡ PLACES },
     ghost soonest_size: { length soonest.items ≡ 64 },
     ghost index: { IsIndex (is_waiting words.items) (slice_index times.items) some
         (slice_index soonest.items) first },
@@ -84,10 +88,10 @@ fn first_of(word: u64, places: &[usize], times: &[u64]) -> Option<usize>
 // The row at a place, of the 4,096 from `start` on.
 fn row_at(start: usize, place: usize) -> usize
     requires start { start < 2 ^ 32 }
-    requires place { place < 4096 }
+    requires place { place < PLACES }
     ensures { result ≡ row_at start place }
 {
-    start + (place + 4096 - start % 4096) % 4096
+    start + (place + PLACES - start % PLACES) % PLACES
 }
 
 impl Agenda {
@@ -104,7 +108,7 @@ impl Agenda {
         ensures { IfOk result (λ agenda. NoneWaits agenda) }
     {
         let words = vec![in alloc; 0; 64]?;
-        let times = vec![in alloc; 0; 4096]?;
+        let times = vec![in alloc; 0; PLACES]?;
         let soonest = vec![in alloc; 0; 64]?;
         Ok(Agenda {
             words,
@@ -140,7 +144,7 @@ impl Agenda {
         ensures { (j : ℕ) → time_of self.new j ≡ (if same_place j k then Some time else
             time_of self.old j) }
     {
-        let place = k % 4096;
+        let place = k % PLACES;
         let word = k / 64 % 64;
         self.soonest[word] = sooner(self.first_in(word), place, time, &self.times);
         self.first = Some(sooner(self.first, place, time, &self.times));

@@ -1,6 +1,7 @@
 //! The records before a record, and the checks that ask of them.
 ghost use Rattle.std.specs.Prelude.{◌≡◌, ◌+◌, ◌<◌, ◌||◌, [], ◌∷◌, ◌++◌, nat_le, nat_lt, count_by, sum_by, IfOk, OnOk};
 ghost use Rattle.std.specs.List.{list_any};
+ghost use Rattle.mca_fixed.specs.declared.limits.TheConstants.{MOST_UNITS};
 ghost use Rattle.rv_isa.specs.declared.op.Op.{Op as OpOf};
 ghost use Rattle.sched_checks.specs.Before.{counts_of, counts_with, capped, one_if, ops_of};
 ghost use Rattle.sched_checks.specs.Checks as spec;
@@ -9,7 +10,7 @@ use crate::ranges::{
     bad_advance, bad_file, bad_model, bad_resource, bad_retirement, bad_write, entry_units,
 };
 use crate::registers::{file_has, has_twice, note_registers};
-use mca_fixed::NoMemory;
+use mca_fixed::{MOST_UNITS, NoMemory};
 use rv_isa::Op;
 use sched_resolve::{Entry, File};
 use std::alloc::Global;
@@ -201,9 +202,9 @@ impl<'a> RecordsBefore<'a> {
 
     /// There are more units with these than there may be.
     fn has_too_many_units(&self, more: u64) -> bool
-        ensures { result ≡ nat_lt 256 (sum_by spec.entry_units self.now + more) }
+        ensures { result ≡ nat_lt MOST_UNITS (sum_by spec.entry_units self.now + more) }
     {
-        256 < self.counts.units.saturating_add(more)
+        self.counts.units.saturating_add(more) > MOST_UNITS as u64
     }
 
     /// There are as many files as there may be.

@@ -3,9 +3,11 @@ ghost use Rattle.std.specs.Prelude.{◌≡◌, [], ◌||◌, pos, neg_ℤ, nat_l
 ghost use Rattle.std.specs.List.{list_any};
 ghost use Rattle.std.specs.Option.{option_to_list};
 ghost use Rattle.sched_checks.specs.Checks.{is_outside, bad_units, entry_units, out_of_range};
-ghost use Rattle.machine_model.specs.declared.limits.TheConstants.{MOST_CYCLES, MOST_FILE_REGISTERS};
+ghost use Rattle.machine_model.specs.declared.limits.TheConstants.{MOST_CYCLES};
+ghost use Rattle.mca_fixed.specs.declared.limits.TheConstants.{MOST_ENTRIES, MOST_REGISTERS};
 
-use machine_model::{MOST_CYCLES, MOST_FILE_REGISTERS};
+use machine_model::MOST_CYCLES;
+use mca_fixed::{MOST_ENTRIES, MOST_REGISTERS};
 use sched_resolve::{Advance, Entry, File, Makeup, Model, Numbers, Resource, Retirement, Write};
 
 fn is_outside(low: i64, high: i64, number: i64) -> bool
@@ -63,22 +65,22 @@ fn bad_units(makeup: &Makeup) -> bool
 pub fn bad_model(model: &Model) -> bool
     ensures { result ≡ out_of_range [] (Entry.Model model.now) }
 {
-    is_outside(1, 64, model.width) || is_outside(0, 4096, model.buffer)
+    is_outside(1, 64, model.width) || is_outside(0, MOST_ENTRIES as i64, model.buffer)
 }
 
 /// A number of the resource is outside its range; how many there are is another matter.
 pub fn bad_resource(resource: &Resource) -> bool
     ensures { result
-        ≡ (is_outside (neg_ℤ (pos 1)) (pos 4096) resource.now.buffer || bad_units resource.now.makeup) }
+        ≡ (is_outside (neg_ℤ (pos 1)) (pos MOST_ENTRIES) resource.now.buffer || bad_units resource.now.makeup) }
 {
-    is_outside(-1, 4096, resource.buffer) || bad_units(&resource.makeup)
+    is_outside(-1, MOST_ENTRIES as i64, resource.buffer) || bad_units(&resource.makeup)
 }
 
 pub fn bad_write(write: &Write) -> bool
     ensures { result ≡ out_of_range [] (Entry.Write write.now) }
 {
     is_outside(0, MOST_CYCLES as i64, write.latency)
-        || is_outside(1, 4096, write.micro_ops)
+        || is_outside(1, MOST_ENTRIES as i64, write.micro_ops)
         || some_bad_hold(&write.cycles)
         || 8 < write.uses.len()
 }
@@ -92,13 +94,13 @@ pub fn bad_advance(advance: &Advance) -> bool
 /// A number of the file is outside its range; how many there are is another matter.
 pub fn bad_file(file: &File) -> bool
     ensures { result
-        ≡ (is_outside (pos 0) (pos MOST_FILE_REGISTERS) file.now.size || list_any (is_outside (pos 1) (pos 8)) file.now.costs) }
+        ≡ (is_outside (pos 0) (pos MOST_REGISTERS) file.now.size || list_any (is_outside (pos 1) (pos 8)) file.now.costs) }
 {
-    is_outside(0, MOST_FILE_REGISTERS as i64, file.size) || any_outside(1, 8, file.costs.as_slice())
+    is_outside(0, MOST_REGISTERS as i64, file.size) || any_outside(1, 8, file.costs.as_slice())
 }
 
 pub fn bad_retirement(retirement: &Retirement) -> bool
     ensures { result ≡ out_of_range [] (Entry.Retirement retirement.now) }
 {
-    is_outside(-1, 4096, retirement.entries) || is_outside(-1, 64, retirement.width)
+    is_outside(-1, MOST_ENTRIES as i64, retirement.entries) || is_outside(-1, 64, retirement.width)
 }

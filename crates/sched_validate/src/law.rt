@@ -2,6 +2,7 @@
 ghost use Rattle.std.specs.Prelude.{◌≡◌, ◌≤◌, List, length, slice_get, None};
 ghost use Rattle.machine_model.specs.Valid.{HaveOwners, IsValidMachine};
 ghost use Rattle.machine_model.specs.declared.tuning.Tuning.{Tuning as TuningOf};
+ghost use Rattle.mca_fixed.specs.declared.limits.TheConstants.{MOST_UNITS};
 ghost use Rattle.sched_records.specs.declared.limits.TheConstants.{MOST_RECORDS};
 ghost use Rattle.sched_checks.specs.Illness.{illness_of};
 ghost use Rattle.sched_checks.specs.Resources.{group_at, resources_of};
@@ -15,7 +16,7 @@ ghost use Rattle.sched_resolve.specs.InRange.{AreInRange};
 /// A table without an illness describes a machine that keeps the law.
 pub fn machine_is_valid()
     ensures { (es : List EntryOf) (ds : List DefaultsOf) (t : TuningOf) → length es ≤ MOST_RECORDS
-        → AreInRange es ds → illness_of es ≡ None → IsValidMachine 256 256 (machine_of es ds t) }
+        → AreInRange es ds → illness_of es ≡ None → IsValidMachine MOST_UNITS MOST_UNITS (machine_of es ds t) }
 {}
 
 /// A unit of a table's machine has an owner exactly where a resource that is no group has it.

@@ -1,6 +1,7 @@
 //! The units of the resources of a table, and the owners of the units.
 ghost use Rattle.std.specs.Prelude.{◌≡◌, ℕ, ◌+◌, ◌≤◌, ◌<◌, List, length, map, sum_by, slice_index_or, All, IfOk, ◌||◌, None};
 ghost use Rattle.std.specs.List.{list_any};
+ghost use Rattle.mca_fixed.specs.declared.limits.TheConstants.{MOST_UNITS};
 ghost use Rattle.sched_checks.specs.Resources.{own_units};
 ghost use Rattle.sched_validate.specs.Places.{IsPlace};
 ghost use Rattle.sched_validate.specs.Spans.{no_set, is_within, spans_of, in_member, MembersArePlaces};
@@ -8,7 +9,7 @@ ghost use Rattle.sched_validate.specs.Units.{has_unit, owner_of};
 ghost use Rattle.unit_sets.specs.Members.{in_words};
 
 use machine_model::UnitOwner;
-use mca_fixed::{Items, NoMemory};
+use mca_fixed::{Items, MOST_UNITS, NoMemory};
 use sched_resolve::{Makeup, Resource};
 use std::alloc::Global;
 use unit_sets::{UnitMask, UnitSet};
@@ -22,7 +23,7 @@ struct Span {
 
 /// How many units a resource has of its own, where they are at most 256.
 fn own_units(resource: &Resource) -> usize
-    requires { own_units resource.now.makeup ≤ 256 }
+    requires { own_units resource.now.makeup ≤ MOST_UNITS }
     ensures { result ≡ own_units resource.now.makeup }
 {
     resource.makeup.own_units() as usize
@@ -30,7 +31,7 @@ fn own_units(resource: &Resource) -> usize
 
 /// The units that each resource has of its own.
 fn spans(alloc: Global, resources: &[&Resource]) -> Result<Vec<Span>, NoMemory>
-    requires { sum_by (λ r. own_units r.makeup) (map (λ r. r.now) resources.now) ≤ 256 }
+    requires { sum_by (λ r. own_units r.makeup) (map (λ r. r.now) resources.now) ≤ MOST_UNITS }
     ensures { IfOk result (λ spans. spans.items ≡ spans_of (map (λ r. r.now) resources.now)) }
 {
     let mut spans = Vec::with_capacity(alloc, resources.len())?;
@@ -45,7 +46,7 @@ fn spans(alloc: Global, resources: &[&Resource]) -> Result<Vec<Span>, NoMemory>
 
 /// Puts the units that a resource has of its own into a set.
 fn add_units(set: &mut UnitSet, span: &Span)
-    requires { span.now.first + span.now.count ≤ 256 }
+    requires { span.now.first + span.now.count ≤ MOST_UNITS }
     ensures { (v : ℕ) → in_words set.new.words v
         ≡ (is_within span.now v || in_words set.old.words v) }
 {
@@ -56,7 +57,7 @@ fn add_units(set: &mut UnitSet, span: &Span)
 
 /// The units of a group: those of its members. A member that is a group itself has none of its own.
 fn group(spans: &[Span], members: &[Option<usize>]) -> UnitSet
-    requires fit { All (λ s. s.first + s.count ≤ 256) spans.now }
+    requires fit { All (λ s. s.first + s.count ≤ MOST_UNITS) spans.now }
     requires known { All (IsPlace (length spans.now)) members.now }
     ensures { (v : ℕ) → in_words result.words v ≡ list_any (in_member spans.now v) members.now }
 {
@@ -71,7 +72,7 @@ fn group(spans: &[Span], members: &[Option<usize>]) -> UnitSet
 
 /// The units of a resource.
 fn mask(resources: &[&Resource], spans: &[Span], k: usize) -> UnitSet
-    requires sum { sum_by (λ r. own_units r.makeup) (map (λ r. r.now) resources.now) ≤ 256 }
+    requires sum { sum_by (λ r. own_units r.makeup) (map (λ r. r.now) resources.now) ≤ MOST_UNITS }
     requires members { MembersArePlaces (map (λ r. r.now) resources.now) }
     requires spans { spans.now ≡ spans_of (map (λ r. r.now) resources.now) }
     requires known { k < length resources.now }
@@ -89,7 +90,7 @@ fn mask(resources: &[&Resource], spans: &[Span], k: usize) -> UnitSet
 
 /// The units of each resource.
 pub(crate) fn masks(alloc: Global, resources: &[&Resource]) -> Result<Items<UnitSet>, NoMemory>
-    requires sum { sum_by (λ r. own_units r.makeup) (map (λ r. r.now) resources.now) ≤ 256 }
+    requires sum { sum_by (λ r. own_units r.makeup) (map (λ r. r.now) resources.now) ≤ MOST_UNITS }
     requires members { MembersArePlaces (map (λ r. r.now) resources.now) }
     ensures count { IfOk result (λ sets. length sets ≡ length (map (λ r. r.now) resources.now)) }
     ensures units { IfOk result (λ sets. (k v : ℕ) → k < length (map (λ r. r.now) resources.now)
@@ -106,9 +107,9 @@ pub(crate) fn masks(alloc: Global, resources: &[&Resource]) -> Result<Items<Unit
 
 /// The resource that owns a unit, and the unit's place in it.
 fn owner_at(resources: &[&Resource], unit: usize) -> Option<UnitOwner>
-    requires sum { sum_by (λ r. own_units r.makeup) (map (λ r. r.now) resources.now) ≤ 256 }
+    requires sum { sum_by (λ r. own_units r.makeup) (map (λ r. r.now) resources.now) ≤ MOST_UNITS }
     requires few { length resources.now ≤ 64 }
-    requires low { unit < 256 }
+    requires low { unit < MOST_UNITS }
     ensures { result ≡ owner_of (map (λ r. r.now) resources.now) unit }
 {
     let mut first = 0;
@@ -130,14 +131,14 @@ pub(crate) fn owners(
     alloc: Global,
     resources: &[&Resource],
 ) -> Result<Items<Option<UnitOwner>>, NoMemory>
-    requires sum { sum_by (λ r. own_units r.makeup) (map (λ r. r.now) resources.now) ≤ 256 }
+    requires sum { sum_by (λ r. own_units r.makeup) (map (λ r. r.now) resources.now) ≤ MOST_UNITS }
     requires few { length (map (λ r. r.now) resources.now) ≤ 64 }
-    ensures count { IfOk result (λ owners. length owners ≡ 256) }
-    ensures owner { IfOk result (λ owners. (v : ℕ) → v < 256
+    ensures count { IfOk result (λ owners. length owners ≡ MOST_UNITS) }
+    ensures owner { IfOk result (λ owners. (v : ℕ) → v < MOST_UNITS
         → slice_index_or owners v None ≡ owner_of (map (λ r. r.now) resources.now) v) }
 {
-    let mut owners = Vec::with_capacity(alloc, 256)?;
-    for unit in 0..256 {
+    let mut owners = Vec::with_capacity(alloc, MOST_UNITS)?;
+    for unit in 0..MOST_UNITS {
         owners.push(owner_at(resources, unit))?;
     }
     Ok(Items::from_vec(owners))

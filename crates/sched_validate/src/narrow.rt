@@ -9,7 +9,7 @@ pub(crate) fn count(number: i64) -> u32
     if number <= 0 {
         return 0;
     }
-    if number > 4_294_967_295 {
+    if number > u32::MAX as i64 {
         return u32::MAX;
     }
     number as u32
@@ -22,7 +22,7 @@ pub(crate) fn micro_ops(number: i64) -> u16
     if number <= 0 {
         return 0;
     }
-    if number > 65_535 {
+    if number > u16::MAX as i64 {
         return u16::MAX;
     }
     number as u16

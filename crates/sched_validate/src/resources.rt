@@ -2,7 +2,7 @@
 ghost use Rattle.std.specs.Prelude.{◌≡◌, map, All, IfOk, pos, neg_ℤ, int_le, true};
 ghost use Rattle.sched_validate.specs.Buffers.{IsBuffered};
 
-use mca_fixed::{Items, NoMemory, Text};
+use mca_fixed::{Items, MOST_ENTRIES, NoMemory, Text};
 use sched_resolve::Resource;
 use std::alloc::Global;
 
@@ -11,7 +11,7 @@ fn buffer(resource: &Resource) -> i32
     requires { IsBuffered resource.now }
     ensures { result ≡ resource.now.buffer }
 {
-    if resource.buffer < -1 || resource.buffer > 4096 {
+    if resource.buffer < -1 || resource.buffer > MOST_ENTRIES as i64 {
         return 0;
     }
     resource.buffer as i32

@@ -1,11 +1,13 @@
 //! The machine of a table without an illness.
 ghost use Rattle.std.specs.Prelude.{◌≡◌};
 ghost use Rattle.machine_model.specs.Valid.{IsValidMachine};
+ghost use Rattle.mca_fixed.specs.declared.limits.TheConstants.{MOST_UNITS};
 ghost use Rattle.sched_validate.specs.MachineNumbers.{AreNumbers};
 ghost use Rattle.sched_validate.specs.Machine.{machine_of};
 
 use crate::machine_numbers::MachineNumbers;
 use machine_model::{ClassAnswer, FileShare, Limits, Machine, Tuning, UnitOwner, WriteFacts};
+use mca_fixed::MOST_UNITS;
 use rv_isa::{Op, Reg};
 use sched_resolve::Entries;
 use unit_sets::{UnitMask, UnitSet};
@@ -20,14 +22,14 @@ pub struct CheckedTable {
     tuning: Tuning,
     numbers: MachineNumbers,
     ghost right: { AreNumbers entries.list entries.defaults tuning numbers },
-    ghost valid: { IsValidMachine 256 256 (machine_of entries.list entries.defaults tuning) },
+    ghost valid: { IsValidMachine MOST_UNITS MOST_UNITS (machine_of entries.list entries.defaults tuning) },
 }
 
 impl CheckedTable {
     /// The machine of these entries, which keep it.
     pub(crate) fn new(entries: Entries, tuning: Tuning, numbers: MachineNumbers) -> CheckedTable
         requires right { AreNumbers entries.list entries.defaults tuning numbers }
-        requires valid { IsValidMachine 256 256 (machine_of entries.list entries.defaults tuning) }
+        requires valid { IsValidMachine MOST_UNITS MOST_UNITS (machine_of entries.list entries.defaults tuning) }
         ensures entries { result.entries ≡ entries }
         ensures tuning { result.tuning ≡ tuning }
     {
@@ -40,11 +42,12 @@ impl CheckedTable {
 }
 
 impl Machine for CheckedTable {
+    ghost use Rattle.mca_fixed.specs.declared.limits.TheConstants.{MOST_UNITS};
     ghost use Rattle.sched_validate.specs.Machine.{machine_of};
 
-    const UNITS: usize = 256;
+    const UNITS: usize = MOST_UNITS;
 
-    ghost UNITS = { 256 };
+    ghost UNITS = { MOST_UNITS };
 
     type Mask = UnitSet;
 

@@ -3,6 +3,7 @@ ghost use Rattle.std.specs.Prelude.{◌≤◌, length, IfOk};
 
 use crate::case::Case;
 use crate::fault::{Fault, wrong};
+use crate::inputs::tuning_of;
 use cycle_rules::Bound;
 use machine_model::{ClassAnswer, Limits, Machine, NO_CLASS, Tuning, WriteFacts};
 use mca_fixed::MOST_TEXT_BYTES;
@@ -143,10 +144,7 @@ impl Changes {
             stores,
             no_alias,
         } = *self;
-        if dispatch > 64 || registers > 65_536 || loads > 4096 || stores > 4096 {
-            return Err(wrong(alloc, "out of range", "options"));
-        }
-        Ok(Tuning::new(dispatch, registers, loads, stores, no_alias))
+        tuning_of(alloc, dispatch, registers, loads, stores, no_alias)
     }
 }
 
