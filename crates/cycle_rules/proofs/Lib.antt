@@ -22,6 +22,9 @@ pub mod AllOver
 pub mod Quiet
 pub mod RunEnds
 pub mod Leads
+pub mod Producers
+pub mod LastWriters
+pub mod Remainders
 pub mod HoldSums
 pub mod Fractions
 pub mod LeastFrom

@@ -15,6 +15,7 @@ pub mod Holds
 pub mod Given
 pub mod Judged
 pub mod Still
+pub mod Links
 pub mod Waits
 pub mod WaitTimes
 pub mod Totals

@@ -15,6 +15,7 @@
 //! | `Schedule`, `Events` | the run as events, and what the rules give below a bound |
 //! | `Waits`, `WaitTimes` | how long rows wait, and how that is read from the times of a table |
 //! | `Held`, `CycleBound` | how long units are held, and the bound |
+//! | `Links` | where the values that a row reads come from, in each iteration alike |
 //! | `Holds` | the cycles for which the rows hold a unit, summed |
 //! | `Totals` | the numbers of a run as a whole, and reciprocal throughputs |
 //! | `Examples` | for each rule a run and a table that breaks it, in the words of `Worked` |
@@ -45,11 +46,13 @@ ghost use Rattle.cycle_rules.specs.Examples.{examples, worked_bounds};
 ghost use Rattle.cycle_rules.specs.declared.bound.Bound.{Bound as BoundOf};
 ghost use Rattle.cycle_rules.specs.declared.times.Times.{Times as TimesOf};
 
+mod body_places;
 mod bound;
 mod finds;
 mod given;
 mod holds;
 mod judge;
+mod links;
 mod next;
 mod operands;
 mod pipe;
@@ -59,9 +62,11 @@ mod starts;
 mod steps;
 mod times;
 
+pub use body_places::BodyPlaces;
 pub use bound::{Bound, Source};
 pub use holds::{holds_add_up, sum_holds, sum_holds_at};
 pub use judge::check_run;
+pub use links::{Link, Links, all_links};
 pub use operands::{lead, lead_of};
 pub use pipe::{Pipe, drive};
 pub use place::{Field, Place};

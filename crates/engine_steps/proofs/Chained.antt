@@ -8,9 +8,9 @@ use Rattle.std.proofs.lemmas.List.{get_or_append_left, get_or-replicate, get_or-
 use Rattle.std.proofs.lemmas.List.Folds.{list_any_at}
 use Rattle.std.proofs.lemmas.List.Elements.{All-get_or, All-from_get_or}
 use Rattle.std.proofs.Math.Seq.{get_or-append_seam}
-use Rattle.engine_steps.specs.declared.links.Links.{Links}
+use Rattle.cycle_rules.specs.declared.links.Links.{Links}
 use Rattle.engine_steps.specs.Readers.{back_at, names_place, IsLatest, AreChained, IsAppended, AreLists, AreReaders, IsDistance, readers_at}
-use Rattle.engine_steps.specs.Links.{IsWithin, no_links}
+use Rattle.cycle_rules.specs.Links.{IsWithin, no_links}
 
 -- Chains
 

@@ -8,10 +8,7 @@ pub mod Classes
 pub mod Selects
 pub mod Refusals
 pub mod Enters
-pub mod Producers
-pub mod LastWriters
 pub mod Operands
 pub mod Bodies
-pub mod Remainders
 pub mod Chained
 pub mod Readings

@@ -11,12 +11,14 @@ use Rattle.cycle_rules.specs.Row.{Row, Input, Table, input}
 use Rattle.cycle_rules.specs.Issue.{producer, has_operand, has_operands, is_ready}
 use Rattle.cycle_rules.specs.declared.bound.Source.{Source}
 use Rattle.event_rules.specs.Skip.{is_row, is_read_from}
-use Rattle.engine_steps.specs.declared.links.Link.{Link}
-use Rattle.engine_steps.specs.declared.links.Links.{Links}
-use Rattle.engine_steps.specs.Links.{is_there, AreLinks, AllLinks, IsWithin, no_links}
+use Rattle.cycle_rules.specs.declared.links.Link.{Link}
+use Rattle.cycle_rules.specs.declared.links.Links.{Links}
+use Rattle.cycle_rules.specs.Links.{AllLinks, IsWithin, no_links}
+use Rattle.engine_steps.specs.Links.{is_there, TellOperands}
 use Rattle.engine_steps.specs.Readers.{back_at, names_place, AreReaders, readers_at}
-use Rattle.engine_steps.proofs.Producers.{place_back}
+use Rattle.cycle_rules.proofs.Producers.{place_back}
 use Rattle.engine_steps.proofs.Chained.{names_one}
+use Rattle.engine_steps.proofs.Operands.{operands_linked}
 
 -- row q issues after a cycle, and each other row at once
 abbrev late : ℕ → ℕ → Table
@@ -65,7 +67,7 @@ there_not j q c link low h = elim (cases_eq link.back 0) [
       ])
 ]
 
-read_link : (m : MachineMeaning) (body : List Row) (iterations j q p : ℕ) (links : Links) → AreLinks m body p links → j % length body ≡ p → is_read_from (input m body iterations) j q ≡ true
+read_link : (m : MachineMeaning) (body : List Row) (iterations j q p : ℕ) (links : Links) → TellOperands m body p links → j % length body ≡ p → is_read_from (input m body iterations) j q ≡ true
     → (links.first.back ≡ j - q) ⊎ (links.second.back ≡ j - q)
 read_link m body iterations j q p links linked at is =
     let c : ℕ = links.first.lead + links.second.lead in
@@ -97,7 +99,7 @@ readers_told m body iterations n j k links starts later whole some size linked n
     let lp : k % n < n = mod-lt k some in
     let lq : j % n < n = mod-lt j some in
     let l : Links = slice_index_or links (k % n) no_links in
-    let link : (l.first.back ≡ k - j) ⊎ (l.second.back ≡ k - j) = read_link m body iterations k j (k % n) l (linked (k % n) lp) (ap (λ x. k % x) whole) is in
+    let link : (l.first.back ≡ k - j) ⊎ (l.second.back ≡ k - j) = read_link m body iterations k j (k % n) l (operands_linked m body n links linked (k % n) lp) (ap (λ x. k % x) whole) is in
     let within : IsWithin n l = All-get_or (IsWithin n) links (k % n) no_links (omega (arith, lp, size)) near in
     let low : k - j ≤ n = elim link [ inl a ↦ omega (arith, a, within.first) | inr b ↦ omega (arith, b, within.second) ] in
     let number : (id : ℕ) × (id < 2 * n) × (id / 2 ≡ k % n) × (back_at links id ≡ k - j) = numbered links n (k % n) (k - j) lp link in

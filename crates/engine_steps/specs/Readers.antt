@@ -1,8 +1,8 @@
 -- Which rows read what a row writes: the body repeats, so that they stand as many rows later in each iteration.
 use Rattle.std.specs.Prelude.{◌≡◌, ℕ, ◌+◌, ◌-◌, ◌*◌, ◌/◌, ◌%◌, ◌<◌, ◌≤◌, List, length, take, drop, Bool, true, false, not, ◌&&◌, nat_eq, slice_index_or, if◌then◌else◌}
 use Rattle.std.specs.List.{All, list_any}
-use Rattle.engine_steps.specs.declared.links.Links.{Links}
-use Rattle.engine_steps.specs.Links.{no_links}
+use Rattle.cycle_rules.specs.declared.links.Links.{Links}
+use Rattle.cycle_rules.specs.Links.{no_links}
 
 -- how many rows back the row stands that a link names, 0 for none: those of place p have the numbers 2p and 2p + 1
 abbrev pub back_at : List Links → ℕ → ℕ

@@ -11,10 +11,8 @@
 mod dispatch;
 mod flight;
 mod issue;
-mod links;
 mod memory;
 mod pipeline;
-mod places;
 mod plan;
 mod readers;
 mod refused;
@@ -23,7 +21,6 @@ mod rows;
 mod wakeup;
 
 pub use flight::Flight;
-pub use links::{Link, Links};
 pub use pipeline::Pipeline;
 pub use plan::Plan;
 pub use rows::Rows;

@@ -7,14 +7,13 @@ ghost use Rattle.event_rules.specs.Due.{later};
 ghost use Rattle.cycle_rules.specs.Row.{times};
 ghost use Rattle.mca_fixed.specs.declared.limits.TheConstants.{MOST_ROWS};
 ghost use Rattle.engine_state.specs.State.{never};
-ghost use Rattle.engine_steps.specs.Links.{AllLinks, AreLast, IsWithin, was_there, after, link_from, no_links};
+ghost use Rattle.cycle_rules.specs.Links.{AllLinks, IsWithin, no_links};
+ghost use Rattle.engine_steps.specs.Links.{was_there, after, link_from};
 ghost use Rattle.engine_steps.specs.Readers.{AreReaders};
 
-use crate::links::{Link, Links, Writers, links_at};
-use crate::places::Places;
 use crate::readers::Readers;
 use crate::rows::Rows;
-use cycle_rules::{Bound, Times};
+use cycle_rules::{BodyPlaces, Bound, Link, Links, Times, all_links};
 use machine_model::Machine;
 use mca_fixed::NoMemory;
 use std::alloc::Global;
@@ -28,7 +27,7 @@ pub struct Plan<'a, M: Machine> {
     // Where the reads of each instruction get their values.
     links: Vec<Links>,
     // Which place of the body each row is.
-    places: Places,
+    places: BodyPlaces,
     // How many rows later those rows stand that read what the row at a place writes.
     readers: Readers,
     ghost some: { 0 < length body.now },
@@ -41,36 +40,6 @@ pub struct Plan<'a, M: Machine> {
     ghost placed: { places.size ≡ length body.now },
     ghost read: { AreReaders links.items (length body.now) readers.starts.items
         readers.later.items },
-}
-
-// The last writers when the rows of one iteration have gone by.
-fn writers_once(body: &[Bound]) -> Writers
-    requires { length body.now ≤ MOST_ROWS }
-    ensures { AreLast (map row_of body.now) (length body.now) result.last }
-{
-    let mut writers = Writers::none();
-    for place in 0..body.len() {
-        writers.note(place, body[place].rd);
-    }
-    writers
-}
-
-// The links of all instructions of a body.
-fn all_links<M: Machine>(alloc: Global, machine: &M, body: &[Bound]) -> Result<Vec<Links>, NoMemory>
-    requires bound { AreBound (M.meaning machine.now) body.now }
-    requires few { length body.now ≤ MOST_ROWS }
-    ensures size { IfOk result (λ links. length links.items ≡ length body.now) }
-    ensures linked { IfOk result (λ links. AllLinks (M.meaning machine.now) (map row_of body.now)
-        (length body.now) links.items) }
-    ensures near { IfOk result (λ links. All (IsWithin (length body.now)) links.items) }
-{
-    let mut links = Vec::with_capacity(alloc, body.len())?;
-    let mut writers = writers_once(body);
-    for place in 0..body.len() {
-        links.push(links_at(machine, body, place, &writers))?;
-        writers.note(body.len() + place, body[place].rd);
-    }
-    Ok(links)
 }
 
 // Whether a time that is recorded, or not yet, lies so many cycles back.
@@ -165,7 +134,7 @@ impl<'a, M: Machine> Plan<'a, M> {
             body,
             iterations: iterations as usize,
             links,
-            places: Places::of(body.len()),
+            places: BodyPlaces::of(body.len()),
             readers,
         })
     }

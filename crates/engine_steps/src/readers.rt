@@ -3,11 +3,11 @@
 ghost use Rattle.std.specs.Prelude.{◌≡◌, ◌<◌, ◌≤◌, ◌+◌, ◌-◌, ◌*◌, List, length, IfOk, OnOk};
 ghost use Rattle.std.specs.List.{All};
 ghost use Rattle.mca_fixed.specs.declared.limits.TheConstants.{MOST_ROWS};
-ghost use Rattle.engine_steps.specs.declared.links.Links.{Links as LinksOf};
-ghost use Rattle.engine_steps.specs.Links.{IsWithin};
+ghost use Rattle.cycle_rules.specs.declared.links.Links.{Links as LinksOf};
+ghost use Rattle.cycle_rules.specs.Links.{IsWithin};
 ghost use Rattle.engine_steps.specs.Readers.{AreSpans, AreReaders, AreChained, IsAppended, back_at, readers_at};
 
-use crate::links::Links;
+use cycle_rules::Links;
 use mca_fixed::NoMemory;
 use std::alloc::Global;
 

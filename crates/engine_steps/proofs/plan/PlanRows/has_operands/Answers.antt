@@ -2,9 +2,10 @@ use Rattle.std.proofs.Common.{◌%◌, ◌∙◌, ap, arith, length, map, ◌&&�
 use Rattle.std.proofs.lemmas.List.{length-map}
 use Rattle.std.proofs.Math.Nat.{mod-lt}
 use Rattle.cycle_rules.specs.Bind.{row_of}
-use Rattle.engine_steps.specs.declared.links.Links.{Links}
-use Rattle.engine_steps.specs.Links.{no_links, was_there}
-use Rattle.engine_steps.proofs.Operands.{operands_told}
+use Rattle.cycle_rules.specs.declared.links.Links.{Links}
+use Rattle.cycle_rules.specs.Links.{no_links}
+use Rattle.engine_steps.specs.Links.{was_there}
+use Rattle.engine_steps.proofs.Operands.{operands_linked, operands_told}
 use Rattle.engine_steps.proofs.plan.PlanRows.has_operands.Goals as goal
 
 pub returns : goal.returns
@@ -12,4 +13,4 @@ returns g c = c.both.ensures ∙ (λ i. c.was_there-first.ensures i && c.was_the
     ∙ ap (λ (l : Links). was_there c.args.table.now c.args.j c.args.c l.first && was_there c.args.table.now c.args.j c.args.c l.second) c.row_links-links.ensures
     ∙ operands_told (g.M.Machine.meaning c.args.self.now.machine.now) (map row_of c.args.self.now.body.now) c.args.self.now.iterations c.args.j c.args.c (c.args.j % length c.args.self.now.body.now) c.args.table.now
     (slice_index_or c.args.self.now.links.items (c.args.j % length c.args.self.now.body.now) no_links) c.requires.row c.requires.kept
-    (c.args.self.now.linked (c.args.j % length c.args.self.now.body.now) (mod-lt c.args.j (omega (arith, c.args.self.now.some)))) (ap (λ n. c.args.j % n) (length-map c.args.self.now.body.now row_of))
+    (operands_linked (g.M.Machine.meaning c.args.self.now.machine.now) (map row_of c.args.self.now.body.now) (length c.args.self.now.body.now) c.args.self.now.links.items c.args.self.now.linked (c.args.j % length c.args.self.now.body.now) (mod-lt c.args.j (omega (arith, c.args.self.now.some)))) (ap (λ n. c.args.j % n) (length-map c.args.self.now.body.now row_of))

@@ -1,7 +1,7 @@
 use Rattle.std.proofs.Common.{◌≡◌, ℕ, ◌+◌, ◌*◌, ◌/◌, ◌^◌, ◌<◌, ◌≤◌, arith, sym}
 use Rattle.std.proofs.Math.Nat.{mod-eq-sub-div-mul, div-mul-le_self}
-use Rattle.engine_steps.proofs.Remainders.{quotient_told, large}
-use Rattle.engine_steps.proofs.places.Places.at.Goals as goal
+use Rattle.cycle_rules.proofs.Remainders.{quotient_told, large}
+use Rattle.cycle_rules.proofs.body_places.BodyPlaces.at.Goals as goal
 
 told : (n inverse j : ℕ) → 1 ≤ n → n ≤ 2 ^ 20 → inverse ≡ 2 ^ 42 / n + 1 → j < 2 ^ 21 → j * inverse / 2 ^ 42 ≡ j / n
 told n inverse j some few exact low = quotient_told n inverse (2 ^ 42) j some exact (omega (arith, large n some few, few, low, exact))

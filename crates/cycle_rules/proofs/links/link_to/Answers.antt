@@ -4,12 +4,12 @@ use Rattle.std.specs.Prelude.{slice_index_or}
 use Rattle.std.proofs.lemmas.List.{length-map, get_or-map}
 use Rattle.cycle_rules.specs.Bind.{row_of}
 use Rattle.cycle_rules.specs.Row.{Row, no_row, lead, advance_of}
-use Rattle.engine_steps.specs.Links.{IsBack}
-use Rattle.engine_steps.proofs.Producers.{link_zero, link_told}
-use Rattle.engine_steps.proofs.links.link_to.Goals as goal
+use Rattle.cycle_rules.specs.Links.{IsBack}
+use Rattle.cycle_rules.proofs.Producers.{link_zero, link_told}
+use Rattle.cycle_rules.proofs.links.link_to.Goals as goal
 
 pub returns-then-number-eq0-clause-link : goal.returns-then-number-eq0-clause-link
-returns-then-number-eq0-clause-link g c = link_zero _ _ c.args.place c.args.read (record { back = 0; lead = 0 }) (sym c.number.ensures.value ∙ c.if-number-eq0.true) refl
+returns-then-number-eq0-clause-link g c = λ iterations j _. link_zero (g.M.Machine.meaning c.args.machine.now) (map row_of c.args.body.now) iterations j c.args.read (record { back = 0; lead = 0 }) (sym c.number.ensures.value ∙ c.if-number-eq0.true) refl
 
 pub returns-then-back-eq0-clause-link : goal.returns-then-back-eq0-clause-link
 returns-then-back-eq0-clause-link g c = link_told (g.M.Machine.meaning c.args.machine.now) (map row_of c.args.body.now) c.args.place c.args.read (record { back = 0; lead = 0 }) (λ e. c.if-number-eq0.false (c.number.ensures.value ∙ e)) (omega (arith, length-map c.args.body.now row_of, c.requires.place))

@@ -8,7 +8,7 @@ ghost use Rattle.mca_fixed.specs.declared.limits.TheConstants.{MOST_ROWS};
 /// and rounded up. For up to 2^21 rows of a body of up to 2^20 instructions what is rounded stays
 /// below one iteration, so that a multiplication and a shift stand for the division.
 #[derive(Clone, Copy, Debug)]
-pub(crate) struct Places {
+pub struct BodyPlaces {
     // How many places the body has.
     size: usize,
     // 2^42 divided by the size, rounded down, and one more.
@@ -18,21 +18,21 @@ pub(crate) struct Places {
     ghost exact: { inverse ≡ 2 ^ 42 / size + 1 },
 }
 
-impl Places {
+impl BodyPlaces {
     /// The places of a body of `size` instructions, 1 to `MOST_ROWS`.
-    pub(crate) fn of(size: usize) -> Places
+    pub fn of(size: usize) -> BodyPlaces
         requires some { 1 ≤ size }
         requires few { size ≤ MOST_ROWS }
         ensures { result.size ≡ size }
     {
-        Places {
+        BodyPlaces {
             size,
             inverse: (1 << 42) / size + 1,
         }
     }
 
     /// The place of row `j`, which is below twice `MOST_ROWS`; the result is below the size.
-    pub(crate) fn at(&self, j: usize) -> usize
+    pub fn at(&self, j: usize) -> usize
         requires { j < 2 * MOST_ROWS }
         ensures { result ≡ j % self.now.size }
     {

@@ -1,7 +1,7 @@
 use Rattle.std.proofs.Common.{map}
 use Rattle.cycle_rules.specs.Bind.{row_of}
-use Rattle.engine_steps.proofs.LastWriters.{wrote_first}
-use Rattle.engine_steps.proofs.plan.writers_once.Goals as goal
+use Rattle.cycle_rules.proofs.LastWriters.{wrote_first}
+use Rattle.cycle_rules.proofs.links.writers_once.Goals as goal
 
 pub loop-place-init : goal.loop-place-init
 loop-place-init c = c.none-writers.ensures (map row_of c.args.body.now)

@@ -3,9 +3,9 @@ use Rattle.std.specs.Prelude.{slice_index_or}
 use Rattle.std.proofs.lemmas.List.{length-map}
 use Rattle.cycle_rules.specs.Bind.{row_of}
 use Rattle.cycle_rules.specs.Row.{Row}
-use Rattle.engine_steps.specs.Links.{IsBack, IsLast}
-use Rattle.engine_steps.proofs.LastWriters.{some_back}
-use Rattle.engine_steps.proofs.links.Writers.rows_back.Goals as goal
+use Rattle.cycle_rules.specs.Links.{IsBack, IsLast}
+use Rattle.cycle_rules.proofs.LastWriters.{some_back}
+use Rattle.cycle_rules.proofs.links.Writers.rows_back.Goals as goal
 
 pub returns : goal.returns
 returns c =

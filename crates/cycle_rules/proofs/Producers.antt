@@ -1,18 +1,22 @@
 -- The producer of a value that is read stands as many rows back in each iteration.
-use Rattle.std.proofs.Common.{zero, suc, ◌≡◌, ℕ, ◌+◌, ◌-◌, ◌*◌, ◌/◌, ◌%◌, ◌<◌, ◌≤◌, inl, inr, List, [], ◌∷◌, length, arith, sym, ◌∙◌, ap, subst, refl, Bool, true, false, ◌&&◌, Some, None}
+use Rattle.std.proofs.Common.{zero, suc, ◌≡◌, ℕ, ◌+◌, ◌-◌, ◌*◌, ◌/◌, ◌%◌, ◌<◌, ◌≤◌, inl, inr, List, [], ◌∷◌, ◌++◌, length, arith, sym, ◌∙◌, ap, subst, refl, Bool, true, false, ◌&&◌, Some, None}
 use Rattle.std.specs.Prelude.{nat_lt, nat_le, nat_eq, slice_index_or}
 use Rattle.std.proofs.lemmas.Bool.Decides.{nat_tests}
 use Rattle.std.proofs.lemmas.Bool.{cases_eq, cases_lt}
+use Rattle.std.proofs.lemmas.Option.{none-some, same_Some}
+use Rattle.std.proofs.lemmas.List.{get_or_append_left}
 use Rattle.std.proofs.lemmas.Nat.{div-add-mod'}
+use Rattle.std.proofs.Math.Seq.{get_or-append_seam}
 use Rattle.std.proofs.Math.Nat.{add-mod_right, mul-add-mod_self_right, mod-eq_of_lt, mod-lt}
 use Rattle.machine_model.specs.Meaning.{MachineMeaning}
 use Rattle.cycle_rules.specs.Below.{last_below}
-use Rattle.cycle_rules.specs.Row.{Row, input, no_row, lead, advance_of}
-use Rattle.cycle_rules.specs.Issue.{producer, has_operand, has_operands}
+use Rattle.cycle_rules.specs.Row.{Row, Input, input, no_row, lead, advance_of}
+use Rattle.cycle_rules.specs.Issue.{producer}
+use Rattle.cycle_rules.specs.Still.{no_source}
+use Rattle.cycle_rules.specs.Links.{rd_at, named, IsBack, IsLink, AreLinks, AllLinks, no_links}
 use Rattle.cycle_rules.specs.declared.bound.Source.{Source}
-use Rattle.engine_steps.specs.declared.links.Link.{Link}
-use Rattle.engine_steps.specs.declared.links.Links.{Links}
-use Rattle.engine_steps.specs.Links.{rd_at, IsBack, is_there, IsLink, AreLinks, no_source}
+use Rattle.cycle_rules.specs.declared.links.Link.{Link}
+use Rattle.cycle_rules.specs.declared.links.Links.{Links}
 
 -- rows that do not pass are passed over
 skip : (p : ℕ → Bool) (j e : ℕ) → ((i : ℕ) → 1 ≤ i → i ≤ e → i ≤ j → p (j - i) ≡ false) → last_below j p ≡ last_below (j - e) p
@@ -92,52 +96,74 @@ producer_none m body iterations j p r h lp =
 
 -- Links
 
-pub link_zero : (m : MachineMeaning) (body : List Row) (p : ℕ) (s : Source) (link : Link) → s.reg ≡ 0 → link.back ≡ 0 → IsLink m body p s link
-unfolding has_operand
-link_zero m body p s link x0 none = λ iterations j c t is.
-    let a : nat_eq s.reg 0 ≡ true = grind (arith, nat_tests, x0) in
-    let b : nat_eq link.back 0 ≡ true = grind (arith, nat_tests, none) in rw (a, b) refl
+pub named_none : (j : ℕ) (link : Link) → link.back ≡ 0 → named j link ≡ None
+named_none j link e = let b : nat_eq link.back 0 ≡ true = grind (arith, nat_tests, e) in rw b refl
+
+pub named_early : (j : ℕ) (link : Link) → (link.back ≡ 0 → ⊥) → j < link.back → named j link ≡ None
+named_early j link some early =
+    let b : nat_eq link.back 0 ≡ false = grind (arith, nat_tests, some) in
+    let d : nat_lt j link.back ≡ true = grind (arith, nat_tests, early) in rw (b, d) refl
+
+pub named_back : (j : ℕ) (link : Link) → (link.back ≡ 0 → ⊥) → link.back ≤ j → named j link ≡ Some (j - link.back)
+named_back j link some within =
+    let b : nat_eq link.back 0 ≡ false = grind (arith, nat_tests, some) in
+    let d : nat_lt j link.back ≡ false = grind (arith, nat_tests, within) in rw (b, d) refl
+
+pub link_zero : (m : MachineMeaning) (body : List Row) (iterations j : ℕ) (s : Source) (link : Link) → s.reg ≡ 0 → link.back ≡ 0 → IsLink (input m body iterations) j s link
+link_zero m body iterations j s link x0 none = record {
+  row = (let a : nat_eq s.reg 0 ≡ true = grind (arith, nat_tests, x0) in rw a (named_none j link none));
+  lead = λ k is. absurd (none-some k (sym (named_none j link none) ∙ is));
+}
 
 pub link_told : (m : MachineMeaning) (body : List Row) (p : ℕ) (s : Source) (link : Link) → (s.reg ≡ 0 → ⊥) → p < length body → IsBack body p s.reg link.back
     → ((link.back ≡ 0 → ⊥) → link.lead ≡ lead (slice_index_or body ((p + length body - link.back) % length body) no_row).latency (advance_of m s.read (slice_index_or body ((p + length body - link.back) % length body) no_row).write))
-    → IsLink m body p s link
-unfolding has_operand
-link_told m body p s link some lp h takes = λ iterations j c t is.
+    → (iterations j : ℕ) → j % length body ≡ p → IsLink (input m body iterations) j s link
+link_told m body p s link some lp h takes iterations j is =
+    let g : Input = input m body iterations in
     let a : nat_eq s.reg 0 ≡ false = grind (arith, nat_tests, some) in
     elim (cases_eq link.back 0) [
-      | inl none ↦ (let b : nat_eq link.back 0 ≡ true = grind (arith, nat_tests, none) in
-          rw (a, b, producer_none m body iterations j p s.reg (subst (IsBack body p s.reg) none h) lp) refl)
-      | inr back ↦ (let b : nat_eq link.back 0 ≡ false = grind (arith, nat_tests, back) in
-          elim (cases_lt j link.back) [
-            | inl early ↦ (let d : nat_lt j link.back ≡ true = grind (arith, nat_tests, early) in
-                rw (a, b, d, producer_early m body iterations j p s.reg link.back h early is) refl)
-            | inr within ↦ (let d : nat_lt j link.back ≡ false = grind (arith, nat_tests, within) in
-                let row : ◌≡◌ {A = Row} ((input m body iterations).row (j - link.back)) (slice_index_or body ((p + length body - link.back) % length body) no_row) = ap (λ q. slice_index_or body q no_row) (place_back (length body) j link.back p (omega (arith, back)) h.within within is) in
-                rw (a, b, d, producer_back m body iterations j p s.reg link.back h back within is)
-                (ap (λ n. nat_le ((t (j - link.back)).issue + n) c) (ap (λ (x : Row). lead x.latency (advance_of m s.read x.write)) row ∙ sym (takes back))))
-          ])
+      | inl none ↦ record {
+        row = rw a (named_none j link none ∙ sym (producer_none m body iterations j p s.reg (subst (IsBack body p s.reg) none h) lp));
+        lead = λ k e. absurd (none-some k (sym (named_none j link none) ∙ e));
+      }
+      | inr back ↦ elim (cases_lt j link.back) [
+        | inl early ↦ record {
+          row = rw a (named_early j link back early ∙ sym (producer_early m body iterations j p s.reg link.back h early is));
+          lead = λ k e. absurd (none-some k (sym (named_early j link back early) ∙ e));
+        }
+        | inr within ↦ record {
+          row = rw a (named_back j link back within ∙ sym (producer_back m body iterations j p s.reg link.back h back within is));
+          lead = λ k e. (
+              let same : j - link.back ≡ k = same_Some (j - link.back) k (sym (named_back j link back within) ∙ e) in
+              let row : ◌≡◌ {A = Row} (slice_index_or body ((p + length body - link.back) % length body) no_row) (g.row (j - link.back)) = ap (λ q. slice_index_or body q no_row) (sym (place_back (length body) j link.back p (omega (arith, back)) h.within within is)) in
+              takes back ∙ ap (λ (x : Row). lead x.latency (advance_of m s.read x.write)) (row ∙ ap g.row same));
+        }
+      ]
     ]
 
--- the links of all reads of an instruction
+-- the links of the reads of an instruction are those of its rows
 pub links_told : (m : MachineMeaning) (body : List Row) (p : ℕ) (reads : List Source) (links : Links) → length reads ≤ 2 → (slice_index_or body p no_row).reads ≡ reads
-    → (0 < length reads → IsLink m body p (slice_index_or reads 0 no_source) links.first) → (length reads ≤ 0 → links.first.back ≡ 0)
-    → (1 < length reads → IsLink m body p (slice_index_or reads 1 no_source) links.second) → (length reads ≤ 1 → links.second.back ≡ 0) → AreLinks m body p links
-unfolding has_operands
-links_told m body p [] links few is first no_first second no_second = λ iterations j c t at_p.
-    let reads : ((input m body iterations).row j).reads ≡ [] = ap (λ q. (slice_index_or body q no_row).reads) at_p ∙ is in
-    let a : nat_eq links.first.back 0 ≡ true = let e : links.first.back ≡ 0 = no_first (omega arith) in grind (arith, nat_tests, e) in
-    let b : nat_eq links.second.back 0 ≡ true = let e : links.second.back ≡ 0 = no_second (omega arith) in grind (arith, nat_tests, e) in
-    rw (reads, a, b) refl
-links_told m body p (x ∷ []) links few is first no_first second no_second = λ iterations j c t at_p.
-    let reads : ((input m body iterations).row j).reads ≡ x ∷ [] = ap (λ q. (slice_index_or body q no_row).reads) at_p ∙ is in
-    let b : nat_eq links.second.back 0 ≡ true = let e : links.second.back ≡ 0 = no_second (omega arith) in grind (arith, nat_tests, e) in
-    rw (reads, b, first (omega arith) iterations j c t at_p) refl
-links_told m body p (x ∷ y ∷ []) links few is first no_first second no_second = λ iterations j c t at_p.
-    let reads : ((input m body iterations).row j).reads ≡ x ∷ y ∷ [] = ap (λ q. (slice_index_or body q no_row).reads) at_p ∙ is in
-    rw (reads, first (omega arith) iterations j c t at_p, second (omega arith) iterations j c t at_p) (and_true (is_there t j c links.first) (is_there t j c links.second))
-  where
-    and_true : (a b : Bool) → (a && (b && true)) ≡ (a && b)
-    and_true true true = refl
-    and_true true false = refl
-    and_true false b = refl
-links_told m body p (x ∷ y ∷ z ∷ rest) links few is first no_first second no_second = absurd (omega (arith, few))
+    → (0 < length reads → (iterations j : ℕ) → j % length body ≡ p → IsLink (input m body iterations) j (slice_index_or reads 0 no_source) links.first) → (length reads ≤ 0 → links.first.back ≡ 0)
+    → (1 < length reads → (iterations j : ℕ) → j % length body ≡ p → IsLink (input m body iterations) j (slice_index_or reads 1 no_source) links.second) → (length reads ≤ 1 → links.second.back ≡ 0)
+    → (iterations j : ℕ) → j % length body ≡ p → AreLinks (input m body iterations) j links
+links_told m body p reads links few is first no_first second no_second iterations j at_p =
+    let here : ((input m body iterations).row j).reads ≡ reads = ap (λ q. (slice_index_or body q no_row).reads) at_p ∙ is in
+    record {
+      few = rw here few;
+      first = rw here (λ some. first some iterations j at_p);
+      no_first = rw here no_first;
+      second = rw here (λ some. second some iterations j at_p);
+      no_second = rw here no_second;
+    }
+
+-- those of one place more
+pub links_more : (m : MachineMeaning) (body : List Row) (n : ℕ) (links : List Links) (x : Links) → length links ≡ n → AllLinks m body n links
+    → ((iterations j : ℕ) → j % length body ≡ n → AreLinks (input m body iterations) j x) → AllLinks m body (n + 1) (links ++ x ∷ [])
+links_more m body n links x size all last = λ p lt iterations j at_p. elim (cases_eq p n) [
+  | inl here ↦ (
+      let at : slice_index_or (links ++ x ∷ []) p no_links ≡ x = ap (λ i. slice_index_or (links ++ x ∷ []) i no_links) (here ∙ sym size) ∙ get_or-append_seam links x [] no_links in
+      subst (λ (y : Links). AreLinks (input m body iterations) j y) (sym at) (last iterations j (at_p ∙ here)))
+  | inr ne ↦ (
+      let low : p < n = omega (arith, lt, ne) in
+      subst (λ (y : Links). AreLinks (input m body iterations) j y) (sym (get_or_append_left links (x ∷ []) no_links p (omega (arith, low, size)))) (all p low iterations j at_p))
+]

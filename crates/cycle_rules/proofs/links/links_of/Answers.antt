@@ -1,8 +1,8 @@
 use Rattle.std.proofs.Common.{take, map, sym, ap}
 use Rattle.cycle_rules.specs.Bind.{row_of}
 use Rattle.cycle_rules.specs.Row.{Row}
-use Rattle.engine_steps.proofs.Producers.{links_told}
-use Rattle.engine_steps.proofs.links.links_of.Goals as goal
+use Rattle.cycle_rules.proofs.Producers.{links_told}
+use Rattle.cycle_rules.proofs.links.links_of.Goals as goal
 
 pub link_of-first-requires-clause-classes : goal.link_of-first-requires-clause-classes
 link_of-first-requires-clause-classes g c = c.requires.b.row.reads

@@ -7,7 +7,7 @@ use Rattle.std.proofs.Math.Nat.{add-mod_left, add-mod_right, mod-eq_of_lt}
 use Rattle.cycle_rules.specs.Bind.{row_of}
 use Rattle.cycle_rules.specs.Row.{Row, no_row}
 use Rattle.cycle_rules.specs.declared.bound.Bound.{Bound}
-use Rattle.engine_steps.specs.Links.{rd_at, IsBack, IsLast, AreLast}
+use Rattle.cycle_rules.specs.Links.{rd_at, IsBack, IsLast, AreLast}
 
 none_in : (n r : ℕ) → ◌≡◌ {A = ℕ} (slice_index_or (replicate n 0) r 0) 0
 none_in zero r = refl

@@ -2,11 +2,11 @@ use Rattle.std.proofs.Common.{◌≡◌, ◌+◌, ◌∷◌, [], List, map, leng
 use Rattle.std.specs.List.{All}
 use Rattle.std.proofs.lemmas.List.Elements.{All-push}
 use Rattle.cycle_rules.specs.Bind.{row_of}
-use Rattle.engine_steps.specs.declared.links.Links.{Links}
-use Rattle.engine_steps.specs.Links.{AllLinks, AreLast, IsWithin}
-use Rattle.engine_steps.proofs.LastWriters.{wrote_second}
-use Rattle.engine_steps.proofs.Operands.{links_more}
-use Rattle.engine_steps.proofs.plan.all_links.Goals as goal
+use Rattle.cycle_rules.specs.declared.links.Links.{Links}
+use Rattle.cycle_rules.specs.Links.{AllLinks, AreLast, IsWithin}
+use Rattle.cycle_rules.proofs.LastWriters.{wrote_second}
+use Rattle.cycle_rules.proofs.Producers.{links_more}
+use Rattle.cycle_rules.proofs.links.all_links.Goals as goal
 
 pub loop-place-preserved : goal.loop-place-preserved
 loop-place-preserved g c = record {
@@ -18,3 +18,6 @@ loop-place-preserved g c = record {
       subst (λ n. AreLast (map row_of c.args.body.now) n c.note.new.self.last) next
       (c.note.ensures (map row_of c.args.body.now) (wrote_second c.args.body.now c.loop-place.place _ c.loop-place-test.true) c.loop-place.invariant.last));
 }
+
+pub returns-clause-linked : goal.returns-clause-linked
+returns-clause-linked g c = λ p lt. c.loop-place.invariant.linked p (omega (arith, lt, c.loop-place-test.false))

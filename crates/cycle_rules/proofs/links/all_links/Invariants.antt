@@ -1,8 +1,8 @@
 use Rattle.std.proofs.Common.{◌≡◌, ◌+◌, length, map}
 use Rattle.std.specs.List.{All}
 use Rattle.cycle_rules.specs.Bind.{row_of}
-use Rattle.engine_steps.specs.Links.{AllLinks, AreLast, IsWithin}
-use Rattle.engine_steps.proofs.plan.all_links.Given as goal
+use Rattle.cycle_rules.specs.Links.{AllLinks, AreLast, IsWithin}
+use Rattle.cycle_rules.proofs.links.all_links.Given as goal
 
 abbrev pub invariant-loop-place : goal.invariant-loop-place
 invariant-loop-place g l = record {
