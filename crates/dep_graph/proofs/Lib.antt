@@ -1,6 +1,5 @@
 pub mod WorkedWaits
 pub mod Spans
-pub mod Parts
 pub mod Past
 pub mod Holding
 pub mod Runs

@@ -1,5 +1,5 @@
 -- A list with one element more.
-use Rattle.std.proofs.Common.{◌≡◌, ℕ, ◌+◌, ◌<◌, inl, inr, arith, sym, ◌∙◌, ap, subst, List, [], ◌∷◌, ◌++◌, length}
+use Rattle.std.proofs.Common.{zero, suc, ◌≡◌, ℕ, ◌+◌, ◌<◌, ◌≤◌, inl, inr, arith, refl, sym, ◌∙◌, ap, subst, List, [], ◌∷◌, ◌++◌, length}
 use Rattle.std.specs.Prelude.{slice_index_or}
 use Rattle.std.proofs.lemmas.Bool.{cases_lt}
 use Rattle.std.proofs.lemmas.List.{get_or_append_left}
@@ -14,3 +14,16 @@ all_pushed P xs x d n size h last j lt = elim (cases_lt j n) [
       let at : slice_index_or (xs ++ x ∷ []) j d ≡ x = ap (λ m. slice_index_or (xs ++ x ∷ []) m d) (here ∙ sym size) ∙ e in
       subst (λ m. P m (slice_index_or (xs ++ x ∷ []) j d)) (sym here) (subst (λ y. P n y) (sym at) last))
 ]
+
+-- one default more is not seen
+pub pushed_default : {X : Type 0} (xs : List X) (d : X) (k : ℕ) → slice_index_or (xs ++ d ∷ []) k d ≡ slice_index_or xs k d
+pushed_default [] d zero = refl
+pushed_default [] d (suc k) = refl
+pushed_default (x ∷ xs) d zero = refl
+pushed_default (x ∷ xs) d (suc k) = pushed_default xs d k
+
+-- nor is there more than the default past the end
+pub past_end : {X : Type 0} (xs : List X) (d : X) (k : ℕ) → length xs ≤ k → slice_index_or xs k d ≡ d
+past_end [] d k le = refl
+past_end (x ∷ xs) d zero le = absurd (omega (arith, le))
+past_end (x ∷ xs) d (suc k) le = past_end xs d k (omega (arith, le))

@@ -1,66 +1,59 @@
--- The values that a row reads: who wrote them last, and which of them is there last.
-use Rattle.std.proofs.Common.{zero, suc, ◌≡◌, ℕ, ◌+◌, ◌-◌, ◌<◌, ◌≤◌, inl, inr, arith, refl, sym, ◌∙◌, ap, true, false, not, List, [], ◌∷◌, ◌++◌, length}
-use Rattle.std.specs.Prelude.{nat_eq, nat_le, nat_lt, max, if◌then◌else◌, Option, Some, None, slice_index_or, slice_set, replicate}
-use Rattle.std.proofs.lemmas.Bool.{cases_lt, cases_eq, cases_Bool}
+-- The values that a row reads: who makes them, and which of them is there last.
+use Rattle.std.proofs.Common.{suc, ◌≡◌, ℕ, ◌+◌, ◌-◌, ◌<◌, ◌≤◌, inl, inr, arith, refl, sym, ◌∙◌, ap, subst, Bool, true, false, not, List, [], ◌∷◌, ◌++◌, length}
+use Rattle.std.specs.Prelude.{nat_eq, nat_le, nat_lt, max, if◌then◌else◌, Option, Some, None, MatchOption, slice_index_or}
+use Rattle.std.proofs.lemmas.Bool.{cases_lt, cases_Bool}
 use Rattle.std.proofs.lemmas.Bool.Decides.{nat_tests}
-use Rattle.std.proofs.lemmas.List.{get_or-set_same, get_or-set_other, length-set}
-use Rattle.cycle_rules.specs.Below.{last_below}
 use Rattle.cycle_rules.specs.CycleBound.{max_below}
-use Rattle.cycle_rules.specs.Row.{Input, Table}
+use Rattle.cycle_rules.specs.Row.{Input, Table, lead, advance_of}
 use Rattle.cycle_rules.specs.Issue.{producer, has_operand}
 use Rattle.cycle_rules.specs.Waits.{earliest, at_issue, operands_at, memory_at, register_wait, memory_wait}
+use Rattle.cycle_rules.specs.Links.{named, IsLink, AreLinks}
+use Rattle.cycle_rules.specs.Still.{no_source}
 use Rattle.cycle_rules.specs.declared.bound.Source.{Source}
+use Rattle.cycle_rules.specs.declared.links.Link.{Link}
+use Rattle.cycle_rules.specs.declared.links.Links.{Links}
+use Rattle.cycle_rules.proofs.Producers.{named_none}
 use Rattle.dep_graph.specs.PassTimes.{value_time, read_time, reads_time, pass_time}
-use Rattle.dep_graph.specs.Peaks.{AreWriters, IsLate, late_in, IsPeak, IsWait}
+use Rattle.dep_graph.specs.Peaks.{IsLate, late_in, IsPeak, IsWait}
 use Rattle.dep_graph.specs.Blamed.{absent_in, register_blamed, holds_up, memory_blamed}
 use Rattle.dep_graph.specs.declared.peak.Peak.{Peak}
 use Rattle.dep_graph.specs.declared.waits.Wait.{Wait}
 use Rattle.dep_graph.proofs.Timed.{operand_seen, passes_seen, ready_is, ordered_is, waits_sum, last_older}
 use Rattle.dep_graph.proofs.Runs.{AreRows, first_is}
 
--- The last writers
-
-none_in : (n r : ℕ) → ◌≡◌ {A = Option ℕ} (slice_index_or (replicate n None) r None) None
-none_in zero r = refl
-none_in (suc n) zero = refl
-none_in (suc n) (suc r) = none_in n r
-
-pub writers_none : (g : Input) (writers : List (Option ℕ)) → writers ≡ replicate 32 None → AreWriters g 0 writers
-unfolding producer last_below
-writers_none g writers is = record { size = ap length is; last = λ r lt. ap (λ l. slice_index_or l r None) is ∙ none_in 32 r }
-
-producer_more : (g : Input) (j r : ℕ) → producer g (j + 1) r ≡ (if nat_eq (g.row j).rd r then Some j else producer g j r)
-unfolding producer last_below
-producer_more g j r = let e : suc j ≡ j + 1 = omega arith in ap (λ n. last_below n (λ k. nat_eq (g.row k).rd r)) (sym e)
-
-pub writers_more : (g : Input) (j rd : ℕ) (writers : List (Option ℕ)) → rd < 32 → (g.row j).rd ≡ rd → AreWriters g j writers → AreWriters g (j + 1) (slice_set writers rd (Some j))
-writers_more g j rd writers low is h = record {
-  size = length-set writers rd (Some j) ∙ h.size;
-  last = λ r lt. elim (cases_eq r rd) [
-    | inl here ↦ (let hit : nat_eq (g.row j).rd r ≡ true = grind (arith, nat_tests, here, is) in
-        let got : slice_index_or (slice_set writers rd (Some j)) rd None ≡ Some j = get_or-set_same writers rd (Some j) None (omega (arith, low, h.size)) in
-        ap (λ q. slice_index_or (slice_set writers rd (Some j)) q None) here ∙ got ∙ sym (producer_more g j r ∙ (rw hit refl)))
-    | inr other ↦ (let miss : nat_eq (g.row j).rd r ≡ false = grind (arith, nat_tests, other, is) in
-        let got : slice_index_or (slice_set writers rd (Some j)) r None ≡ slice_index_or writers r None = get_or-set_other writers rd r (Some j) None other in
-        got ∙ h.last r lt ∙ sym (producer_more g j r ∙ (rw miss refl)))
-  ];
-}
-
 pub producer_older : (g : Input) (j r k : ℕ) → producer g j r ≡ Some k → k < j
 unfolding producer
 producer_older g j r k is = last_older j (λ k. nat_eq (g.row k).rd r) k is
 
--- A read
+-- A read, by its link
 
-pub time_zero : (g : Input) (t : Table) (j : ℕ) (s : Source) → s.reg ≡ 0 → read_time g t j s ≡ 0
-time_zero g t j s is = let e : nat_eq s.reg 0 ≡ true = grind (arith, nat_tests, is) in rw e refl
+pub link_time : (g : Input) (t : Table) (j : ℕ) (s : Source) (link : Link) (peak : Peak) → IsLink g j s link
+    → MatchOption (named j link) (peak.time ≡ 0) (λ k. (peak.time ≡ (t k).issue + link.lead) × (peak.row ≡ k))
+    → (peak.time ≡ read_time g t j s) × (0 < peak.time → producer g j s.reg ≡ Some peak.row)
+link_time g t j s link peak is h = go (nat_eq s.reg 0) refl
+  where
+    naming : Bool → Option ℕ
+    naming zero = if zero then None else producer g j s.reg
 
-pub time_of : (g : Input) (t : Table) (j : ℕ) (s : Source) (o : Option ℕ) → (s.reg ≡ 0 → ⊥) → producer g j s.reg ≡ o → read_time g t j s ≡ value_time g t s.read o
-time_of g t j s o some is = let e : nat_eq s.reg 0 ≡ false = grind (arith, nat_tests, some) in rw (e, is) refl
+    timed : Option ℕ → Type 0
+    timed o = MatchOption o (peak.time ≡ 0) (λ k. (peak.time ≡ (t k).issue + link.lead) × (peak.row ≡ k))
+
+    by : (o : Option ℕ) → producer g j s.reg ≡ o → ((k : ℕ) → o ≡ Some k → link.lead ≡ lead (g.row k).latency (advance_of g.machine s.read (g.row k).write)) → timed o
+        → (peak.time ≡ value_time g t s.read o) × (0 < peak.time → producer g j s.reg ≡ Some peak.row)
+    by None made leads at = (at, λ some. absurd (omega (arith, at, some)))
+    by (Some k) made leads at = (at.0 ∙ ap (λ n. (t k).issue + n) (leads k refl), λ _. made ∙ ap Some (sym at.1))
+
+    go : (zero : Bool) → nat_eq s.reg 0 ≡ zero → (peak.time ≡ (if zero then 0 else value_time g t s.read (producer g j s.reg))) × (0 < peak.time → producer g j s.reg ≡ Some peak.row)
+    go true at = (let none : peak.time ≡ 0 = subst timed (is.row ∙ ap naming at) h in (none, λ some. absurd (omega (arith, none, some))))
+    go false at = by (producer g j s.reg) refl (λ k e. is.lead k (is.row ∙ ap naming at ∙ e)) (subst timed (is.row ∙ ap naming at) h)
+
+-- a link that names no row
+pub no_time : (t : Table) (j : ℕ) (link : Link) (peak : Peak) → link.back ≡ 0 → MatchOption (named j link) (peak.time ≡ 0) (λ k. (peak.time ≡ (t k).issue + link.lead) × (peak.row ≡ k)) → peak.time ≡ 0
+no_time t j link peak none h = subst (λ o. MatchOption o (peak.time ≡ 0) (λ k. (peak.time ≡ (t k).issue + link.lead) × (peak.row ≡ k))) (named_none j link none) h
 
 -- Several reads
 
-pub late_none : (g : Input) (t : Table) (j : ℕ) (peak : Peak) → peak.time ≡ 0 → IsLate g t j [] peak
+late_none : (g : Input) (t : Table) (j : ℕ) (peak : Peak) → peak.time ≡ 0 → IsLate g t j [] peak
 late_none g t j peak none = record { time_is = none; row_is = λ some. absurd (omega (arith, none, some)) }
 
 times_more : (g : Input) (t : Table) (j : ℕ) (xs : List Source) (s : Source) → reads_time g t j (xs ++ s ∷ []) ≡ max (reads_time g t j xs) (read_time g t j s)
@@ -81,7 +74,7 @@ late_first g t j time (x ∷ xs) ys k is = elim (cases_Bool (nat_lt (read_time g
   | inr there ↦ (let here : producer g j x.reg ≡ Some k = rw there at is in rw there here)
 ]
 
-pub late_more : (g : Input) (t : Table) (j : ℕ) (xs : List Source) (s : Source) (p q : Peak) → IsLate g t j xs p → q.time ≡ read_time g t j s → (0 < q.time → producer g j s.reg ≡ Some q.row)
+late_more : (g : Input) (t : Table) (j : ℕ) (xs : List Source) (s : Source) (p q : Peak) → IsLate g t j xs p → q.time ≡ read_time g t j s → (0 < q.time → producer g j s.reg ≡ Some q.row)
     → IsLate g t j (xs ++ s ∷ []) (if nat_lt p.time q.time then q else p)
 late_more g t j xs s p q h time row = elim (cases_lt p.time q.time) [
   | inl lt ↦ (let e : nat_lt p.time q.time ≡ true = grind (arith, nat_tests, lt) in
@@ -95,6 +88,40 @@ late_more g t j xs s p q h time row = elim (cases_lt p.time q.time) [
         row_is = λ some. late_first g t j p.time xs (s ∷ []) p.row (h.row_is some);
       }))
 ]
+
+late_one : (g : Input) (t : Table) (j : ℕ) (s : Source) (q : Peak) → q.time ≡ read_time g t j s → (0 < q.time → producer g j s.reg ≡ Some q.row) → IsLate g t j (s ∷ []) q
+late_one g t j s q time row = record {
+  time_is = omega (arith, time);
+  row_is = λ some. late_last g t j q.time [] s some (sym time) ∙ row some;
+}
+
+-- the later of the times of two links
+pub late_of : (g : Input) (t : Table) (j : ℕ) (links : Links) (p q : Peak) → AreLinks g j links
+    → MatchOption (named j links.first) (p.time ≡ 0) (λ k. (p.time ≡ (t k).issue + links.first.lead) × (p.row ≡ k))
+    → MatchOption (named j links.second) (q.time ≡ 0) (λ k. (q.time ≡ (t k).issue + links.second.lead) × (q.row ≡ k))
+    → IsLate g t j (g.row j).reads (if nat_lt p.time q.time then q else p)
+late_of g t j links p q are at_p at_q = go (g.row j).reads refl
+  where
+    only : IsLate g t j (g.row j).reads p → q.time ≡ 0 → IsLate g t j (g.row j).reads (if nat_lt p.time q.time then q else p)
+    only is none = let e : nat_lt p.time q.time ≡ false = grind (arith, nat_tests, none) in rw e is
+
+    go : (reads : List Source) → (g.row j).reads ≡ reads → IsLate g t j (g.row j).reads (if nat_lt p.time q.time then q else p)
+    go [] e =
+        let size : length (g.row j).reads ≡ 0 = ap length e in
+        only (subst (λ rs. IsLate g t j rs p) (sym e) (late_none g t j p (no_time t j links.first p (are.no_first (omega (arith, size))) at_p))) (no_time t j links.second q (are.no_second (omega (arith, size))) at_q)
+    go (x ∷ []) e =
+        let size : length (g.row j).reads ≡ 1 = ap length e in
+        let first : IsLink g j x links.first = subst (λ (rs : List Source). IsLink g j (slice_index_or rs 0 no_source) links.first) e (are.first (omega (arith, size))) in
+        let told = link_time g t j x links.first p first at_p in
+        only (subst (λ rs. IsLate g t j rs p) (sym e) (late_one g t j x p told.0 told.1)) (no_time t j links.second q (are.no_second (omega (arith, size))) at_q)
+    go (x ∷ y ∷ []) e =
+        let size : length (g.row j).reads ≡ 2 = ap length e in
+        let first : IsLink g j x links.first = subst (λ (rs : List Source). IsLink g j (slice_index_or rs 0 no_source) links.first) e (are.first (omega (arith, size))) in
+        let second : IsLink g j y links.second = subst (λ (rs : List Source). IsLink g j (slice_index_or rs 1 no_source) links.second) e (are.second (omega (arith, size))) in
+        let one = link_time g t j x links.first p first at_p in
+        let two = link_time g t j y links.second q second at_q in
+        subst (λ rs. IsLate g t j rs (if nat_lt p.time q.time then q else p)) (sym e) (late_more g t j (x ∷ []) y p q (late_one g t j x p one.0 one.1) two.0 two.1)
+    go (x ∷ y ∷ z ∷ rest) e = absurd (let size : length (g.row j).reads ≡ suc (suc (suc (length rest))) = ap length e in omega (arith, size, are.few))
 
 -- Who is blamed
 

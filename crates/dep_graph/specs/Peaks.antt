@@ -1,17 +1,17 @@
--- The greatest of the times of some rows, kept with the first row that reaches it; the last writers of registers; and what is kept of the waits of a row.
-use Rattle.std.specs.Prelude.{◌≡◌, ℕ, ◌<◌, List, [], ◌∷◌, length, slice_index_or, true, Option, Some, None, nat_lt, if◌then◌else◌}
+-- The greatest of the times of some rows, kept with the first row that reaches it; and what is kept of the waits of a row.
+use Rattle.std.specs.Prelude.{◌≡◌, ℕ, ◌%◌, ◌<◌, List, [], ◌∷◌, length, slice_index_or, true, Option, Some, None, nat_lt, if◌then◌else◌}
 use Rattle.rv_isa.specs.declared.facts.Kind.TheVariants.{Load, Store, Barrier}
 use Rattle.cycle_rules.specs.CycleBound.{max_below}
 use Rattle.cycle_rules.specs.Row.{Input, Table}
 use Rattle.cycle_rules.specs.Issue.{producer, is_fenced}
+use Rattle.cycle_rules.specs.Links.{AreLinks, no_links}
+use Rattle.cycle_rules.specs.declared.links.Links.{Links}
 use Rattle.cycle_rules.specs.Waits.{register_wait, memory_wait, resource_wait}
 use Rattle.cycle_rules.specs.declared.bound.Source.{Source}
 use Rattle.dep_graph.specs.PassTimes.{read_time, reads_time, let_go}
 use Rattle.dep_graph.specs.Blamed.{register_blamed, memory_blamed}
 use Rattle.dep_graph.specs.declared.peak.Peak.{Peak}
 use Rattle.dep_graph.specs.declared.memory.Fences.{Fences}
-use Rattle.dep_graph.specs.declared.waits.KeptWaits.{KeptWaits}
-use Rattle.dep_graph.specs.declared.waits.Older.{Older}
 use Rattle.dep_graph.specs.declared.waits.RowWaits.{RowWaits}
 use Rattle.dep_graph.specs.declared.waits.Wait.{Wait}
 use Rattle.dep_graph.specs.declared.waits.Waits.{Waits}
@@ -27,10 +27,10 @@ pub record IsPeak (f : ℕ → ℕ) (n : ℕ) (peak : Peak) : Type 0 where
   pub time_is : peak.time ≡ max_below n f
   pub row_is : 0 < peak.time → IsFirstAt f n peak.time peak.row
 
--- of each register the last of the rows older than j that writes it
-pub record AreWriters (g : Input) (j : ℕ) (writers : List (Option ℕ)) : Type 0 where
-  pub size : length writers ≡ 32
-  pub last : (r : ℕ) → r < 32 → slice_index_or writers r None ≡ producer g j r
+-- the links of the places of the body tell of each row where its values come from
+pub record HaveLinks (g : Input) (size : ℕ) (links : List Links) : Type 0 where
+  pub within : (j : ℕ) → j < g.rows → j % size < length links
+  pub each : (j : ℕ) → j < g.rows → AreLinks g j (slice_index_or links (j % size) no_links)
 
 -- the producer of the first read whose value is not there before a cycle
 abbrev pub late_in : Input → Table → ℕ → ℕ → List Source → Option ℕ
@@ -49,11 +49,6 @@ pub record AreFences (g : Input) (t : Table) (j : ℕ) (fences : Fences) : Type 
   pub store : IsPeak (λ k. let_go Store (g.row k).kind g.machine.limits.no_alias true (t k).issue (t k).complete) j fences.store
   pub barrier : IsPeak (λ k. let_go Barrier (g.row k).kind g.machine.limits.no_alias true (t k).issue (t k).complete) j fences.barrier
 
--- what the rows older than row j leave to it
-pub record AreOlder (g : Input) (t : Table) (j : ℕ) (older : Older) : Type 0 where
-  pub writers : AreWriters g j older.writers.last
-  pub fences : AreFences g t j older.fences
-
 -- a wait, and the row that is blamed for it
 pub record IsWait (cycles : ℕ) (blamed : Option ℕ) (wait : Wait) : Type 0 where
   pub is : wait.cycles ≡ cycles
@@ -69,10 +64,10 @@ pub record AreRowWaits (g : Input) (t : Table) (j : ℕ) (row : RowWaits) : Type
   pub before : AreWaits g t j row.before
   pub units : row.units ≡ resource_wait g t j
 
--- waits as they are kept
-abbrev pub kept : KeptWaits → Waits
-kept k = record { register = record { cycles = k.register; row = k.register_row }; memory = record { cycles = k.memory; row = k.memory_row } }
+-- the wait of a row in a list that ends with the last row that waited
+abbrev pub kept_at : List Wait → ℕ → Wait
+kept_at waits j = slice_index_or waits j (record { cycles = 0; row = 0 })
 
--- the waits of a row in a list of them
-abbrev pub waits_at : List KeptWaits → ℕ → Waits
-waits_at waits j = kept (slice_index_or waits j (record { register = 0; memory = 0; register_row = 0; memory_row = 0 }))
+-- such a list has the waits of the first n rows for the order of memory
+abbrev pub AreKept : Input → Table → ℕ → List Wait → Type 0
+AreKept g t n waits = (j : ℕ) → j < n → IsWait (memory_wait g t j) (memory_blamed g t j) (kept_at waits j)

@@ -1,11 +1,11 @@
 //! The waits of a run as edges.
-ghost use Rattle.std.specs.Prelude.{◌≡◌, ◌<◌, ◌≤◌, ◌*◌, ◌++◌, ℕ, List, [], length, map, slice_index, IfOk};
+ghost use Rattle.std.specs.Prelude.{◌≡◌, ◌<◌, ◌≤◌, ◌*◌, ◌++◌, [], length, map, IfOk};
 ghost use Rattle.cycle_rules.specs.Bind.{row_of, IsBoundBody};
 ghost use Rattle.cycle_rules.specs.Row.{input, times};
 ghost use Rattle.cycle_rules.specs.Run.{IsRun};
 ghost use Rattle.critical_chain.specs.Graph.{IsGraph};
 ghost use Rattle.dep_graph.specs.Blamed.{edges_along};
-ghost use Rattle.dep_graph.specs.Peaks.{AreWaits, waits_at};
+ghost use Rattle.dep_graph.specs.Peaks.{AreKept, HaveLinks};
 ghost use Rattle.dep_graph.specs.RunGraph.{IsGraphOf, IsIssueOrder};
 ghost use Rattle.dep_graph.specs.Taking.{IsTaking, wait_edge};
 ghost use Rattle.dep_graph.specs.Turns.{AreSlots};
@@ -13,13 +13,14 @@ ghost use Rattle.dep_graph.specs.WaitSums.{AreSums};
 ghost use Rattle.dep_graph.specs.Walk.{IsSoundRun};
 
 use crate::holders::Taker;
+use crate::memory_waits::MemoryWaits;
 use crate::order::{IssueOrder, issue_order};
 use crate::rows::{Rows, Run};
 use crate::sums::WaitSums;
 use crate::unit_waits::unit_wait;
-use crate::waits::{AllWaits, KeptWaits, Wait, all_waits};
+use crate::waits::{AllWaits, Wait, Waits, all_waits, register_wait};
 use critical_chain::{Edge, EdgeKind, Graph};
-use cycle_rules::{Bound, Timeline};
+use cycle_rules::{Bound, Links, Timeline, all_links};
 use machine_model::Machine;
 use mca_fixed::{Items, MOST_ROWS, NoMemory};
 use resource_units::Units;
@@ -90,13 +91,20 @@ pub fn run_waits<M: Machine>(
         (input (M.meaning machine.now) (map row_of body.now) iterations)
         (times run.now.rows) (iterations * length body.now) waits.sums) }
 {
+    let links = all_links(alloc, machine, body)?;
     let rows = Run::make(machine, body, iterations as usize, run.rows.as_slice());
-    waits_of(alloc, machine, &rows)
+    waits_of(alloc, machine, &rows, &links)
 }
 
-// The waits of some rows.
-fn waits_of<M: Machine, R: Rows>(alloc: Global, machine: &M, rows: &R) -> Result<RunWaits, NoMemory>
+// The waits of some rows, by the links of their body.
+fn waits_of<M: Machine, R: Rows>(
+    alloc: Global,
+    machine: &M,
+    rows: &R,
+    links: &[Links],
+) -> Result<RunWaits, NoMemory>
     requires run { IsSoundRun (R.input rows.now) (R.table rows.now) }
+    requires links { HaveLinks (R.input rows.now) (R.size rows.now) links.now }
     requires machine { M.meaning machine.now ≡ (R.input rows.now).machine }
     ensures waits { IfOk result (λ waits. IsGraphOf (R.input rows.now) (times (R.table rows.now))
         waits.graph) }
@@ -106,12 +114,12 @@ fn waits_of<M: Machine, R: Rows>(alloc: Global, machine: &M, rows: &R) -> Result
 {
     let IssueOrder { order, slots } = issue_order(alloc, rows)?;
     let AllWaits {
-        before,
+        memory,
         sums,
         count,
-    } = all_waits(alloc, rows)?;
+    } = all_waits(alloc, rows, links)?;
     let room = Vec::with_capacity(alloc, count)?;
-    let edges = all_edges(alloc, machine, rows, &order, &slots, &before, room)?;
+    let edges = all_edges(alloc, machine, rows, links, &memory, &order, &slots, room)?;
     let graph = Graph {
         rows: rows.count() as u32,
         order: Items::from_vec(order),
@@ -136,32 +144,33 @@ fn push_wait(edges: &mut Vec<Edge>, kind: EdgeKind, row: u32, wait: Wait) -> Res
     Ok(())
 }
 
-// The edges of all waits, by the rows in issue order and what they waited for before units. `edges`
+// The edges of all waits, by the rows in issue order and their waits for the order of memory. `edges`
 // has none so far, but room for them.
 fn all_edges<M: Machine, R: Rows>(
     alloc: Global,
     machine: &M,
     rows: &R,
+    links: &[Links],
+    memory: &MemoryWaits,
     order: &[u32],
     slots: &[u64],
-    waits: &[KeptWaits],
     edges: Vec<Edge>,
 ) -> Result<Vec<Edge>, NoMemory>
     requires run { IsSoundRun (R.input rows.now) (R.table rows.now) }
     requires machine { M.meaning machine.now ≡ (R.input rows.now).machine }
+    requires links { HaveLinks (R.input rows.now) (R.size rows.now) links.now }
+    requires memory { AreKept (R.input rows.now) (times (R.table rows.now)) (R.input rows.now).rows
+        memory.now.waits.items }
     requires order { IsIssueOrder (R.input rows.now) (times (R.table rows.now)) order.now }
     requires slots { AreSlots (R.input rows.now) (times (R.table rows.now)) slots.now }
     requires none { edges.items ≡ [] }
-    requires size { length waits.now ≡ (R.input rows.now).rows }
-    requires waits { (j : ℕ) → j < (R.input rows.now).rows →
-        AreWaits (R.input rows.now) (times (R.table rows.now)) j (waits_at waits.now j) }
     ensures { IfOk result (λ edges. edges.items ≡ edges_along (R.input rows.now)
         (times (R.table rows.now)) order.now) }
 {
     let mut units = Units::make(alloc, machine)?;
     let mut last = vec![in alloc; Taker { place: 0, until: 0 }; M::UNITS]?;
     edges_in_order(
-        machine, rows, &mut units, &mut last, order, slots, waits, edges,
+        machine, rows, links, memory, &mut units, &mut last, order, slots, edges,
     )
 }
 
@@ -169,21 +178,22 @@ fn all_edges<M: Machine, R: Rows>(
 fn edges_in_order<M: Machine, R: Rows>(
     machine: &M,
     rows: &R,
+    links: &[Links],
+    memory: &MemoryWaits,
     units: &mut Units<M>,
     last: &mut [Taker],
     order: &[u32],
     slots: &[u64],
-    waits: &[KeptWaits],
     edges: Vec<Edge>,
 ) -> Result<Vec<Edge>, NoMemory>
     requires run { IsSoundRun (R.input rows.now) (R.table rows.now) }
     requires machine { M.meaning machine.now ≡ (R.input rows.now).machine }
+    requires links { HaveLinks (R.input rows.now) (R.size rows.now) links.now }
+    requires memory { AreKept (R.input rows.now) (times (R.table rows.now)) (R.input rows.now).rows
+        memory.now.waits.items }
     requires order { IsIssueOrder (R.input rows.now) (times (R.table rows.now)) order.now }
     requires slots { AreSlots (R.input rows.now) (times (R.table rows.now)) slots.now }
     requires none { edges.items ≡ [] }
-    requires size { length waits.now ≡ (R.input rows.now).rows }
-    requires waits { (j : ℕ) → j < (R.input rows.now).rows →
-        AreWaits (R.input rows.now) (times (R.table rows.now)) j (waits_at waits.now j) }
     requires taking { IsTaking M.meaning M.Mask.holds (R.input rows.now) (times (R.table rows.now))
         order.now 0 0 units.old last.old }
     ensures { IfOk result (λ edges. edges.items ≡ edges_along (R.input rows.now)
@@ -193,7 +203,10 @@ fn edges_in_order<M: Machine, R: Rows>(
     let mut taken = 0;
     for i in 0..order.len() {
         let row = order[i];
-        let before = waits[row as usize].waits();
+        let before = Waits {
+            register: register_wait(rows, links, row as usize),
+            memory: memory.of(row),
+        };
         push_wait(&mut edges, EdgeKind::Register, row, before.register)?;
         push_wait(&mut edges, EdgeKind::Memory, row, before.memory)?;
         let wait = unit_wait(

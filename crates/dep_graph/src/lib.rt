@@ -1,8 +1,9 @@
 //! Why the rows of a run wait, and why dispatch stalls.
 //!
 //! `edges` gives the waits of a run as a graph: from the row that is blamed to the row that waited.
-//! It goes over the rows in program order, with the last writer of each register and the rows that
-//! hold memory back last, and then in issue order, with the units and the rows that took them last.
+//! It goes over the rows in program order, with the rows that hold memory back last, and then in
+//! issue order, with the units and the rows that took them last. Which rows make the values that a
+//! row reads is worked out once for each place of the body.
 //! `run_waits` gives that graph, and the waits added up, by what was waited for.
 //! `stalls` counts the cycles in which the next row did not dispatch, by what it lacked first: each
 //! lack ends in one cycle, so no cycle is looked at.
@@ -38,6 +39,7 @@ mod fill;
 mod graph;
 mod holders;
 mod memory;
+mod memory_waits;
 mod order;
 mod peak;
 mod reads;

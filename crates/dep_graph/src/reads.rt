@@ -1,86 +1,54 @@
 //! From which cycle on a row has the values that it reads.
-ghost use Rattle.std.specs.Prelude.{◌≡◌, ◌<◌, ◌≤◌, ◌+◌, ℕ, Some, true, nat_lt, if◌then◌else◌};
-ghost use Rattle.cycle_rules.specs.Issue.{producer};
-ghost use Rattle.std.specs.List.{list_all};
-ghost use Rattle.cycle_rules.specs.Bind.{has_class};
-ghost use Rattle.cycle_rules.specs.Row.{Input, times};
-ghost use Rattle.dep_graph.specs.PassTimes.{read_time};
-ghost use Rattle.dep_graph.specs.Peaks.{AreWriters, IsLate};
+ghost use Rattle.std.specs.Prelude.{◌≡◌, ◌<◌, ◌+◌, ◌^◌, nat_lt, if◌then◌else◌, MatchOption};
+ghost use Rattle.cycle_rules.specs.Links.{named};
+ghost use Rattle.cycle_rules.specs.Row.{times};
+ghost use Rattle.dep_graph.specs.Peaks.{HaveLinks, IsLate};
 ghost use Rattle.dep_graph.specs.Walk.{IsSoundRun};
 
 use crate::peak::Peak;
 use crate::rows::Rows;
-use cycle_rules::Source;
-use rv_isa::Reg;
+use cycle_rules::{Link, Links};
 
-/// Of each register the last row that wrote it.
-#[derive(Drop)]
-pub struct Writers {
-    pub last: [Option<u32>; 32],
-}
-
-// No register has been written.
-fn no_rows() -> [Option<u32>; 32]
-    ensures { (g : Input) → AreWriters g 0 result }
+// From which cycle on a value is there, by the issue of the row that makes it.
+fn available(issue: u64, lead: u32) -> u64
+    requires { issue < 2 ^ 42 }
+    ensures { result ≡ issue + lead }
 {
-    [None; 32]
+    issue + lead as u64
 }
 
-impl Writers {
-    /// Before the first row.
-    pub fn none() -> Writers
-        ensures { (g : Input) → AreWriters g 0 result.last }
-    {
-        Writers { last: no_rows() }
+// From which cycle on the value is there that a link of row j names, and the row that makes it.
+fn value<R: Rows>(rows: &R, j: usize, link: Link) -> Peak
+    requires run { IsSoundRun (R.input rows.now) (R.table rows.now) }
+    requires row { j < (R.input rows.now).rows }
+    ensures { MatchOption (named j link) (result.time ≡ 0)
+        (λ k. (result.time ≡ (times (R.table rows.now) k).issue + link.lead) × (result.row ≡ k)) }
+{
+    let back = link.back as usize;
+    if back == 0 {
+        return Peak::none();
     }
+    if j < back {
+        return Peak::none();
+    }
+    let k = j - back;
+    Peak {
+        time: available(rows.times(k).issue, link.lead),
+        row: k as u32,
+    }
+}
 
-    /// Lets a row go by that writes a register.
-    pub fn pass(&mut self, row: u32, rd: Reg)
-        requires { (g : Input) × (AreWriters g row self.old.last) }
-        ensures { (g : Input) → (g.row row).rd ≡ rd → AreWriters g row self.old.last →
-            AreWriters g (row + 1) self.new.last }
-    {
-        self.last[rd.number() as usize] = Some(row);
-    }
-
-    // From which cycle on a read has its value, and the row that makes it.
-    fn time<R: Rows>(&self, rows: &R, j: usize, read: Source) -> Peak
-        requires run { IsSoundRun (R.input rows.now) (R.table rows.now) }
-        requires row { j < (R.input rows.now).rows }
-        requires writers { AreWriters (R.input rows.now) j self.now.last }
-        requires class { has_class (R.input rows.now).machine read ≡ true }
-        ensures time { result.time ≡ read_time (R.input rows.now) (times (R.table rows.now)) j
-            read }
-        ensures row { 0 < result.time → producer (R.input rows.now) j read.reg ≡ Some result.row }
-    {
-        let reg = read.reg.number();
-        if reg == 0 {
-            return Peak::none();
-        }
-        let Some(k) = self.last[reg as usize] else {
-            return Peak::none();
-        };
-        Peak {
-            time: rows.times(k as usize).issue + rows.lead(read.read, k as usize) as u64,
-            row: k,
-        }
-    }
-
-    /// From which cycle on row j has the values that it reads, and the row that makes the first of
-    /// those that are there last.
-    pub fn times<R: Rows>(&self, rows: &R, j: usize, reads: &[Source]) -> Peak
-        requires run { IsSoundRun (R.input rows.now) (R.table rows.now) }
-        requires row { j < (R.input rows.now).rows }
-        requires writers { AreWriters (R.input rows.now) j self.now.last }
-        requires classes { list_all (has_class (R.input rows.now).machine) reads.now ≡ true }
-        ensures { IsLate (R.input rows.now) (times (R.table rows.now)) j reads.now result }
-    {
-        let mut late = Peak::none();
-        for read in reads {
-            late = later(late, self.time(rows, j, *read));
-        }
-        late
-    }
+/// From which cycle on row j has the values that it reads, and the row that makes the first of those
+/// that are there last.
+pub fn late<R: Rows>(rows: &R, links: &[Links], j: usize) -> Peak
+    requires run { IsSoundRun (R.input rows.now) (R.table rows.now) }
+    requires links { HaveLinks (R.input rows.now) (R.size rows.now) links.now }
+    requires row { j < (R.input rows.now).rows }
+    ensures { IsLate (R.input rows.now) (times (R.table rows.now)) j
+        ((R.input rows.now).row j).reads result }
+{
+    let links = links[rows.place(j)];
+    later(value(rows, j, links.first), value(rows, j, links.second))
 }
 
 // The later of two times, the first where they are one.

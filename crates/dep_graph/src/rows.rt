@@ -1,12 +1,11 @@
 //! The rows of a run, and when they did what.
-ghost use Rattle.std.specs.Prelude.{◌≡◌, ◌<◌, ◌≤◌, ◌+◌, ◌*◌, ◌/◌, ◌%◌, ◌^◌, ℕ, List, length, map, true, ◌||◌, nat_eq, nat_lt};
+ghost use Rattle.std.specs.Prelude.{◌≡◌, ◌<◌, ◌≤◌, ◌*◌, ◌%◌, ℕ, List, length, map};
 ghost use Rattle.cycle_rules.specs.Bind.{row_of, IsBound, AreBound};
-ghost use Rattle.cycle_rules.specs.Row.{Input, times, lead, advance_of};
-ghost use Rattle.machine_model.specs.Valid.{no_class};
+ghost use Rattle.cycle_rules.specs.Row.{Input, times};
 ghost use Rattle.cycle_rules.specs.declared.times.Times.{Times as TimesOf};
 ghost use Rattle.mca_fixed.specs.declared.limits.TheConstants.{MOST_ROWS};
 
-use cycle_rules::{Bound, Times, lead};
+use cycle_rules::{BodyPlaces, Bound, Times};
 use machine_model::{FileShare, Limits, Machine};
 use rv_isa::Reg;
 
@@ -15,6 +14,8 @@ pub trait Rows {
     ghost input: { Self → Input };
 
     ghost table: { Self → List TimesOf };
+
+    ghost size: { Self → ℕ };
 
     /// How many rows there are.
     fn count(&self) -> usize
@@ -38,22 +39,16 @@ pub trait Rows {
         ensures row { row_of result.now ≡ (input self.now).row j }
         ensures bound { IsBound (input self.now).machine result.now };
 
-    /// The cycles from the issue of row k until a read of a class can read its value.
-    fn lead(&self, read: u16, k: usize) -> u32
-        requires row { k < (input self.now).rows }
-        requires class { (nat_eq read no_class || nat_lt read (input self.now).machine.read_count)
-            ≡ true }
-        ensures { result ≡ lead ((input self.now).row k).latency (advance_of
-            (input self.now).machine read ((input self.now).row k).write) };
+    /// Which place of the body a row is.
+    fn place(&self, j: usize) -> usize
+        requires { j < (input self.now).rows }
+        ensures { result ≡ j % size self.now };
 
     /// When a row did what.
     fn times(&self, j: usize) -> &Times
         requires { j < length (table self.now) }
         ensures { result.now ≡ times (table self.now) j };
 }
-
-// In how many parts an iteration is counted (`Run::place`).
-const PARTS: u64 = 1 << 40;
 
 /// A body that is bound by a machine, how often it is repeated, and the times of its rows.
 #[derive(Drop)]
@@ -62,12 +57,11 @@ pub struct Run<'a, M: Machine> {
     body: &'a [Bound],
     iterations: usize,
     table: &'a [Times],
-    // How many parts of an iteration a row takes, rounded up.
-    parts: u64,
+    places: BodyPlaces,
     ghost some: { 0 < length body.now },
     ghost few: { iterations * length body.now ≤ MOST_ROWS },
     ghost bound: { AreBound (M.meaning machine.now) body.now },
-    ghost rounded: { parts ≡ 2 ^ 40 / length body.now + 1 },
+    ghost placed: { places.size ≡ length body.now },
 }
 
 impl<'a, M: Machine> Run<'a, M> {
@@ -79,6 +73,7 @@ impl<'a, M: Machine> Run<'a, M> {
         table: &'a [Times],
     ) -> Run<'a, M>
         requires some { 0 < length body.now }
+        requires iterations { 1 ≤ iterations }
         requires few { iterations * length body.now ≤ MOST_ROWS }
         requires bound { AreBound (M.meaning machine.now) body.now }
         ensures machine { result.machine.now ≡ machine.entry.now }
@@ -91,18 +86,8 @@ impl<'a, M: Machine> Run<'a, M> {
             body,
             iterations,
             table,
-            parts: PARTS / body.len() as u64 + 1,
+            places: BodyPlaces::of(body.len()),
         }
-    }
-
-    // The place of a row in the body, `row % body.len()`: a product and a shift find its iteration,
-    // in a fraction of the time of a division.
-    fn place(&self, row: usize) -> usize
-        requires { row < self.now.iterations * length self.now.body.now }
-        ensures { result ≡ row % length self.now.body.now }
-    {
-        let iteration = row as u64 * self.parts / PARTS;
-        row - iteration as usize * self.body.len()
     }
 }
 
@@ -112,6 +97,8 @@ impl<'a, M: Machine> Rows for Run<'a, M> {
     ghost input = { λ r. input (M.meaning r.machine.now) (map row_of r.body.now) r.iterations };
 
     ghost table = { λ r. r.table.now };
+
+    ghost size = { λ r. length r.body.now };
 
     fn count(&self) -> usize {
         self.iterations * self.body.len()
@@ -133,8 +120,8 @@ impl<'a, M: Machine> Rows for Run<'a, M> {
         &self.body[self.place(j)]
     }
 
-    fn lead(&self, read: u16, k: usize) -> u32 {
-        lead(self.machine, read, self.instruction(k))
+    fn place(&self, j: usize) -> usize {
+        self.places.at(j)
     }
 
     fn times(&self, j: usize) -> &Times {

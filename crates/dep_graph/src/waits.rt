@@ -1,17 +1,20 @@
 //! The waits of rows for values and for the order of memory.
-ghost use Rattle.std.specs.Prelude.{◌≡◌, ◌<◌, ◌≤◌, ◌+◌, ◌-◌, ◌^◌, ℕ, length, IfOk, if◌then◌else◌};
-ghost use Rattle.cycle_rules.specs.Bind.{row_of, IsBound};
-ghost use Rattle.cycle_rules.specs.Row.{Input, Table, times};
-ghost use Rattle.dep_graph.specs.Peaks.{AreOlder, AreRowWaits, AreWaits, kept, waits_at};
+ghost use Rattle.std.specs.Prelude.{◌≡◌, ◌<◌, ◌+◌, ◌-◌, ◌^◌, IfOk, if◌then◌else◌};
+ghost use Rattle.cycle_rules.specs.Bind.{row_of};
+ghost use Rattle.cycle_rules.specs.Row.{times};
+ghost use Rattle.cycle_rules.specs.Waits.{register_wait};
+ghost use Rattle.dep_graph.specs.Blamed.{register_blamed};
+ghost use Rattle.dep_graph.specs.Peaks.{AreFences, AreKept, AreRowWaits, HaveLinks, IsWait};
 ghost use Rattle.dep_graph.specs.WaitSums.{AreSums};
 ghost use Rattle.dep_graph.specs.Walk.{IsSoundRun};
 
 use crate::memory::Fences;
+use crate::memory_waits::MemoryWaits;
 use crate::peak::Peak;
-use crate::reads::Writers;
+use crate::reads::late;
 use crate::rows::Rows;
 use crate::sums::WaitSums;
-use cycle_rules::{Bound, Times};
+use cycle_rules::{Bound, Links, Times};
 use mca_fixed::NoMemory;
 use std::alloc::Global;
 
@@ -29,45 +32,6 @@ pub struct Waits {
     pub memory: Wait,
 }
 
-/// The same in less memory: the fields of `register` and those of `memory`.
-#[derive(Clone, Copy, Debug)]
-pub struct KeptWaits {
-    register: u64,
-    memory: u64,
-    register_row: u32,
-    memory_row: u32,
-}
-
-impl KeptWaits {
-    // Keeps waits.
-    fn of(waits: Waits) -> KeptWaits
-        ensures { kept result ≡ waits }
-    {
-        KeptWaits {
-            register: waits.register.cycles,
-            memory: waits.memory.cycles,
-            register_row: waits.register.row,
-            memory_row: waits.memory.row,
-        }
-    }
-
-    /// The waits that are kept.
-    pub fn waits(self) -> Waits
-        ensures { result ≡ kept self }
-    {
-        Waits {
-            register: Wait {
-                cycles: self.register,
-                row: self.register_row,
-            },
-            memory: Wait {
-                cycles: self.memory,
-                row: self.memory_row,
-            },
-        }
-    }
-}
-
 /// The waits of a row.
 #[derive(Clone, Copy, Debug)]
 pub struct RowWaits {
@@ -79,8 +43,9 @@ pub struct RowWaits {
 /// The waits of all rows.
 #[derive(Drop)]
 pub struct AllWaits {
-    /// What each waited for before it waited for units.
-    pub before: Vec<KeptWaits>,
+    /// Those for the order of memory, row by row.
+    pub memory: MemoryWaits,
+    /// Those of each kind, added up.
     pub sums: WaitSums,
     /// How many waits there are, of rows for one thing.
     pub count: usize,
@@ -118,91 +83,87 @@ fn until(from: u64, last: Peak) -> Wait
     }
 }
 
-/// What the rows that have gone by leave to the next one: which of them wrote each register last, and
-/// from when on they let it go, by the order of memory.
-#[derive(Drop)]
-pub struct Older {
-    pub writers: Writers,
-    pub fences: Fences,
+/// The wait of row j for the values that it reads.
+pub fn register_wait<R: Rows>(rows: &R, links: &[Links], j: usize) -> Wait
+    requires run { IsSoundRun (R.input rows.now) (R.table rows.now) }
+    requires links { HaveLinks (R.input rows.now) (R.size rows.now) links.now }
+    requires row { j < (R.input rows.now).rows }
+    ensures { IsWait (register_wait (R.input rows.now) (times (R.table rows.now)) j)
+        (register_blamed (R.input rows.now) (times (R.table rows.now)) j) result }
+{
+    let from = earliest(rows.instruction(j).reserved, rows.times(j).dispatch);
+    until(from, late(rows, links, j))
 }
 
-impl Older {
-    /// Before the first row.
-    pub fn none() -> Older
-        ensures { (g : Input) (t : Table) → AreOlder g t 0 result }
-    {
-        Older {
-            writers: Writers::none(),
-            fences: Fences::none(),
-        }
+// The waits of row j, which is a bound instruction, by its times, and by when the older rows let it
+// go.
+fn row_waits<R: Rows>(
+    rows: &R,
+    links: &[Links],
+    fences: &Fences,
+    b: &Bound,
+    at: &Times,
+    j: usize,
+) -> RowWaits
+    requires run { IsSoundRun (R.input rows.now) (R.table rows.now) }
+    requires links { HaveLinks (R.input rows.now) (R.size rows.now) links.now }
+    requires row { j < (R.input rows.now).rows }
+    requires fences { AreFences (R.input rows.now) (times (R.table rows.now)) j fences.now }
+    requires instruction { row_of b.now ≡ (R.input rows.now).row j }
+    requires at { at.now ≡ times (R.table rows.now) j }
+    ensures { AreRowWaits (R.input rows.now) (times (R.table rows.now)) j result }
+{
+    let register = register_wait(rows, links, j);
+    let ready = earliest(b.reserved, at.dispatch) + register.cycles;
+    let fence = fences.of_kind(b.kind);
+    let ordered = ready.max(fence.time);
+    RowWaits {
+        before: Waits {
+            register,
+            memory: until(ready, fence),
+        },
+        units: at.issue - ordered,
     }
+}
 
-    /// Lets row j go by, and gives its waits.
-    pub fn pass<R: Rows>(&mut self, rows: &R, j: usize) -> RowWaits
-        requires run { IsSoundRun (R.input rows.now) (R.table rows.now) }
-        requires row { j < (R.input rows.now).rows }
-        requires older { AreOlder (R.input rows.now) (times (R.table rows.now)) j self.old }
-        ensures older { AreOlder (R.input rows.now) (times (R.table rows.now)) (j + 1) self.new }
-        ensures waits { AreRowWaits (R.input rows.now) (times (R.table rows.now)) j result }
-    {
-        let b = rows.instruction(j);
-        let at = rows.times(j);
-        let waits = self.waits_of(rows, b, at, j);
-        let no_alias = rows.limits().no_alias;
-        self.writers.pass(j as u32, b.rd);
-        self.fences
-            .pass(j as u32, b.kind, no_alias, at.issue, at.complete);
-        waits
-    }
-
-    // The waits of row j, which is a bound instruction, by its times.
-    fn waits_of<R: Rows>(&self, rows: &R, b: &Bound, at: &Times, j: usize) -> RowWaits
-        requires run { IsSoundRun (R.input rows.now) (R.table rows.now) }
-        requires row { j < (R.input rows.now).rows }
-        requires older { AreOlder (R.input rows.now) (times (R.table rows.now)) j self.now }
-        requires instruction { row_of b.now ≡ (R.input rows.now).row j }
-        requires bound { IsBound (R.input rows.now).machine b.now }
-        requires at { at.now ≡ times (R.table rows.now) j }
-        ensures { AreRowWaits (R.input rows.now) (times (R.table rows.now)) j result }
-    {
-        let from = earliest(b.reserved, at.dispatch);
-        let late = self
-            .writers
-            .times(rows, j, &b.reads[..b.read_count as usize]);
-        let ready = from.max(late.time);
-        let fence = self.fences.of_kind(b.kind);
-        let ordered = ready.max(fence.time);
-        RowWaits {
-            before: Waits {
-                register: until(from, late),
-                memory: until(ready, fence),
-            },
-            units: at.issue - ordered,
-        }
-    }
+// Lets row j go by, and gives its waits.
+fn pass<R: Rows>(rows: &R, links: &[Links], fences: &mut Fences, j: usize) -> RowWaits
+    requires run { IsSoundRun (R.input rows.now) (R.table rows.now) }
+    requires links { HaveLinks (R.input rows.now) (R.size rows.now) links.now }
+    requires row { j < (R.input rows.now).rows }
+    requires fences { AreFences (R.input rows.now) (times (R.table rows.now)) j fences.old }
+    ensures fences { AreFences (R.input rows.now) (times (R.table rows.now)) (j + 1) fences.new }
+    ensures waits { AreRowWaits (R.input rows.now) (times (R.table rows.now)) j result }
+{
+    let b = rows.instruction(j);
+    let at = rows.times(j);
+    let waits = row_waits(rows, links, fences, b, at, j);
+    let no_alias = rows.limits().no_alias;
+    fences.pass(j as u32, b.kind, no_alias, at.issue, at.complete);
+    waits
 }
 
 /// The waits of all rows.
-pub fn all_waits<R: Rows>(alloc: Global, rows: &R) -> Result<AllWaits, NoMemory>
+pub fn all_waits<R: Rows>(alloc: Global, rows: &R, links: &[Links]) -> Result<AllWaits, NoMemory>
     requires run { IsSoundRun (R.input rows.now) (R.table rows.now) }
-    ensures size { IfOk result (λ all. length all.before.items ≡ (R.input rows.now).rows) }
-    ensures waits { IfOk result (λ all. (j : ℕ) → j < (R.input rows.now).rows →
-        AreWaits (R.input rows.now) (times (R.table rows.now)) j (waits_at all.before.items j)) }
+    requires links { HaveLinks (R.input rows.now) (R.size rows.now) links.now }
+    ensures memory { IfOk result (λ all. AreKept (R.input rows.now) (times (R.table rows.now))
+        (R.input rows.now).rows all.memory.waits.items) }
     ensures sums { IfOk result (λ all. AreSums (R.input rows.now) (times (R.table rows.now))
         (R.input rows.now).rows all.sums) }
 {
-    let mut older = Older::none();
+    let mut fences = Fences::none();
     let mut sums = WaitSums::none();
     let mut count = 0;
-    let mut before = Vec::with_capacity(alloc, rows.count())?;
+    let mut memory = MemoryWaits::none(alloc, rows.count())?;
     for j in 0..rows.count() {
-        let row = older.pass(rows, j);
+        let row = pass(rows, links, &mut fences, j);
         sums = sums.with_row(rows, row, j);
         count = and_more(row, count);
-        before.push(KeptWaits::of(row.before))?;
+        memory.keep(j, row.before.memory)?;
     }
     Ok(AllWaits {
-        before,
+        memory,
         sums,
         count,
     })

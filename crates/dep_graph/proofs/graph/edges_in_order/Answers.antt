@@ -6,11 +6,22 @@ use Rattle.critical_chain.specs.declared.graph.EdgeKind.TheVariants.{Register, M
 use Rattle.cycle_rules.specs.Row.{Input, Table, times}
 use Rattle.cycle_rules.specs.Waits.{register_wait, memory_wait}
 use Rattle.dep_graph.specs.Blamed.{edges_along, edges_to, register_blamed, memory_blamed}
-use Rattle.dep_graph.specs.Peaks.{AreWaits}
+use Rattle.dep_graph.specs.Peaks.{AreWaits, IsWait}
 use Rattle.dep_graph.specs.Taking.{wait_edge}
 use Rattle.dep_graph.specs.declared.waits.Waits.{Waits}
 use Rattle.dep_graph.proofs.Forward.{edge_wait, along_more, three_pushed}
 use Rattle.dep_graph.proofs.graph.edges_in_order.Goals as goal
+
+pub unit_wait-wait-requires-clause-waits : goal.unit_wait-wait-requires-clause-waits
+unit_wait-wait-requires-clause-waits g c =
+    let run : Input = g.R.Rows.input c.args.rows.now in
+    let t : Table = times (g.R.Rows.table c.args.rows.now) in
+    let j : ℕ = slice_index c.args.order.now c.loop-i.i in
+    let lj : j < run.rows = c.requires.order.all.below c.loop-i.i (omega (arith, c.loop-i-test.true, c.requires.order.all.rows)) in
+    record {
+      register = c.register_wait.ensures;
+      memory = subst (IsWait (memory_wait run t j) (memory_blamed run t j)) (sym c.of.ensures) (c.requires.memory j lj);
+    }
 
 pub loop-i-preserved : goal.loop-i-preserved
 loop-i-preserved g c =
@@ -18,8 +29,11 @@ loop-i-preserved g c =
     let t : Table = times (g.R.Rows.table c.args.rows.now) in
     let j : ℕ = slice_index c.args.order.now c.loop-i.i in
     let lj : j < run.rows = c.requires.order.all.below c.loop-i.i (omega (arith, c.loop-i-test.true, c.requires.order.all.rows)) in
-    let before : Waits = c.waits-before.result in
-    let waits : AreWaits run t j before = subst (λ w. AreWaits run t j w) (sym c.waits-before.ensures) (c.requires.waits j lj) in
+    let before : Waits = record { register = c.register_wait.result; memory = c.of.result } in
+    let waits : AreWaits run t j before = record {
+      register = c.register_wait.ensures;
+      memory = subst (IsWait (memory_wait run t j) (memory_blamed run t j)) (sym c.of.ensures) (c.requires.memory j lj);
+    } in
     let old : List Edge = c.loop-i.edges.items in
     let a : List Edge = wait_edge Register j before.register in
     let b : List Edge = wait_edge Memory j before.memory in
