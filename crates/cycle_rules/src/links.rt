@@ -31,7 +31,7 @@ pub struct Links {
     pub second: Link,
 }
 
-/// Of each register the last row that wrote it, while the rows of a body that is repeated go by.
+// Of each register the last row that wrote it, while the rows of a body that is repeated go by.
 #[derive(Drop)]
 struct Writers {
     // One more than the row's number; 0 where no row wrote the register.
