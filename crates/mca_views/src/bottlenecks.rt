@@ -1,5 +1,5 @@
 //! What held a run up: the waits of its rows, the stalls of dispatch, and the critical sequence.
-ghost use Rattle.std.specs.Prelude.{◌≡◌, ◌≤◌, ◌<◌, ℕ, List, [], ◌∷◌, ◌+◌, ◌*◌, ◌++◌, map, drop, length, Option, Some, IfOk, OnOk, IfErr};
+ghost use Rattle.std.specs.Prelude.{◌≡◌, ◌≤◌, ◌<◌, ℕ, List, [], ◌∷◌, ◌+◌, ◌*◌, ◌++◌, map, drop, length, Option, Some, IfOk, OnOk, IfErr, IsOkUnless};
 ghost use Rattle.critical_chain.specs.declared.graph.Chain.{Chain as ChainOf};
 ghost use Rattle.cycle_rules.specs.Bind.{IsBoundBody};
 ghost use Rattle.cycle_rules.specs.Row.{times};
@@ -240,8 +240,25 @@ fn put_sequence<M: Machine>(
 {
     let cost = counted(alloc, "Critical sequence:", chain.cost)?;
     page.put_lines(&[cost.as_slice()])?;
+    reserve_links(page, v, chain.links.as_slice())?;
     put_links(page, v, chain.links.as_slice())?;
     Ok(())
+}
+
+/// Takes memory ahead for the links of a chain: their last line is about the longest, as the numbers of its
+/// rows are the greatest.
+fn reserve_links<M: Machine>(page: &mut Page, v: &View<M>, links: &[Edge]) -> Result<(), ViewFault>
+    requires some { 0 < length v.now.body.now }
+    ensures ok { OnOk result (page.new ≡ page.old) }
+    ensures err { IsOkUnless result ViewFault.Memory }
+{
+    match links.last() {
+        Some(last) => {
+            let start = write_link(v, *last, &mut [0; MOST_LINK]);
+            page.reserve(links.len().saturating_mul(MOST_LINK - start + 1))
+        }
+        None => Ok(()),
+    }
 }
 
 /// The links of a chain.

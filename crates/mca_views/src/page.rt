@@ -12,6 +12,7 @@ ghost use Rattle.std.specs.Prelude.{
   OnOk,
   OnErr,
   IfErr,
+  IsOkUnless,
   map,
   take,
 };
@@ -70,6 +71,17 @@ impl Page {
     {
         let Page { text, .. } = self;
         text
+    }
+
+    /// Takes memory ahead for so many more bytes of whole lines, or for as many as there is room for. The
+    /// page stays as it was.
+    pub(crate) fn reserve(&mut self, bytes: usize) -> Result<(), ViewFault>
+        ensures ok { OnOk result (self.new ≡ self.old) }
+        ensures err { IsOkUnless result ViewFault.Memory }
+    {
+        let room = left(self.room, &self.text);
+        self.text.reserve(bytes.min(room))?;
+        Ok(())
     }
 
     /// So many spaces. They take no memory and no room.
