@@ -1,8 +1,8 @@
 -- How long the numbers of a tag are, and the pieces of a link's line.
-use Rattle.std.proofs.Common.{◌≡◌, ℕ, ◌/◌, ◌%◌, ◌^◌, ◌<◌, ◌≤◌, List, ◌++◌, length, ◌∙◌, arith}
+use Rattle.std.proofs.Common.{◌≡◌, ℕ, ◌+◌, ◌/◌, ◌%◌, ◌^◌, ◌<◌, ◌≤◌, List, ◌++◌, length, drop, sym, ap, ◌∙◌, arith}
 use Rattle.std.specs.Fmt.{decimal}
 use Rattle.std.proofs.lemmas.Fmt.{length-decimal-le}
-use Rattle.std.proofs.lemmas.List.{append_assoc}
+use Rattle.std.proofs.lemmas.List.{append_assoc, drop-drop, drop-append-le}
 use Rattle.std.proofs.Math.Nat.{mod-le, div-le_self}
 
 pub short_place : (j n : ℕ) → j < 2 ^ 32 → length (decimal (j % n)) ≤ 10
@@ -19,3 +19,7 @@ pieces a b c d e f h =
     ∙ append_assoc (a ++ b ++ c) d (e ++ (f ++ h))
     ∙ append_assoc (a ++ b) c (d ++ (e ++ (f ++ h)))
     ∙ append_assoc a b (c ++ (d ++ (e ++ (f ++ h))))
+
+-- what is dropped of bytes at the front of others
+pub drop_more : (at start : ℕ) (all bytes rest : List ℕ) → start ≤ length bytes → drop at all ≡ bytes ++ rest → drop (at + start) all ≡ drop start bytes ++ rest
+drop_more at start all bytes rest le is = sym (drop-drop start at all) ∙ ap (drop start) is ∙ drop-append-le start bytes rest le

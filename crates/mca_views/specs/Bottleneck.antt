@@ -1,5 +1,5 @@
 -- What held a run up: how long its rows waited and for what, what dispatch lacked, and the costliest chain of waits.
-use Rattle.std.specs.Prelude.{◌≡◌, ℕ, ◌<◌, ◌*◌, ◌/◌, ◌%◌, List, [], ◌∷◌, ◌++◌, map, codes, length, slice_index, true, false, Option, Some, None, ⊤}
+use Rattle.std.specs.Prelude.{◌≡◌, ℕ, ◌<◌, ◌≤◌, ◌*◌, ◌/◌, ◌%◌, List, [], ◌∷◌, ◌++◌, map, drop, codes, length, slice_index, true, false, Option, Some, None, ⊤}
 use Rattle.std.specs.Fmt.{decimal}
 use Rattle.critical_chain.specs.Chain.{IsCritical}
 use Rattle.critical_chain.specs.Graph.{IsGraph}
@@ -19,6 +19,7 @@ use Rattle.mca_views.specs.Lines.{labelled, lines}
 use Rattle.mca_views.specs.Shown.{Shown, run_of}
 use Rattle.mca_views.specs.Timeline.{tag}
 use Rattle.mca_views.specs.declared.bottlenecks.HeldUp.{HeldUp}
+use Rattle.mca_views.specs.declared.bottlenecks.RowTag.{RowTag}
 use Rattle.mca_views.specs.declared.fault.ViewFault.{ViewFault}
 use Rattle.mca_views.specs.declared.fault.ViewFault.TheVariants as fault
 
@@ -80,6 +81,11 @@ stall_lines s =
 -- the tag of a row
 abbrev pub row_tag : Shown → ℕ → List ℕ
 row_tag s j = tag (j / length s.body) (j % length s.body)
+
+-- a row's tag, kept at the end of its bytes
+pub record IsTag (s : Shown) (t : RowTag) : Type 0 where
+  pub within : t.start ≤ 23
+  pub bytes : drop t.start t.bytes ≡ row_tag s t.row
 
 abbrev pub kind_word : EdgeKind → List ℕ
 kind_word Register = codes "register"

@@ -1,5 +1,5 @@
 //! What held a run up: the waits of its rows, the stalls of dispatch, and the critical sequence.
-ghost use Rattle.std.specs.Prelude.{◌≡◌, ◌≤◌, ◌<◌, ℕ, List, [], ◌∷◌, ◌+◌, ◌*◌, ◌++◌, map, drop, length, Option, Some, IfOk, OnOk, IfErr, IsOkUnless};
+ghost use Rattle.std.specs.Prelude.{◌≡◌, ◌≤◌, ◌<◌, ℕ, List, [], ◌∷◌, ◌+◌, ◌-◌, ◌*◌, ◌++◌, map, drop, length, codes, Option, Some, IfOk, OnOk, IfErr, IsOkUnless};
 ghost use Rattle.critical_chain.specs.declared.graph.Chain.{Chain as ChainOf};
 ghost use Rattle.cycle_rules.specs.Bind.{IsBoundBody};
 ghost use Rattle.cycle_rules.specs.Row.{times};
@@ -7,7 +7,7 @@ ghost use Rattle.cycle_rules.specs.Run.{IsRunOf};
 ghost use Rattle.dep_graph.specs.WaitSums.{AreSums};
 ghost use Rattle.machine_model.specs.Valid.{IsValidMachine};
 ghost use Rattle.mca_words.specs.declared.options.Options.{Options as OptionsOf};
-ghost use Rattle.mca_views.specs.Bottleneck.{IsSequence, IsAsked, HasSums, sequence_of, IsBottleneck, IsOver, sum_lines, waited_lines, stall_lines, row_tag, kind_word, link_line, sequence_lines, bottleneck_lines};
+ghost use Rattle.mca_views.specs.Bottleneck.{IsSequence, IsAsked, HasSums, sequence_of, IsBottleneck, IsOver, sum_lines, waited_lines, stall_lines, IsTag, kind_word, link_line, sequence_lines, bottleneck_lines};
 ghost use Rattle.mca_views.specs.Fault.{Over};
 ghost use Rattle.mca_views.specs.Lines.{lines};
 ghost use Rattle.mca_views.specs.Page.{added};
@@ -254,7 +254,7 @@ fn reserve_links<M: Machine>(page: &mut Page, v: &View<M>, links: &[Edge]) -> Re
 {
     match links.last() {
         Some(last) => {
-            let start = write_link(v, *last, &mut [0; MOST_LINK]);
+            let start = write_link(v, *last, &mut tag_of(v, last.from), &mut [0; MOST_LINK]);
             page.reserve(links.len().saturating_mul(MOST_LINK - start + 1))
         }
         None => Ok(()),
@@ -270,49 +270,113 @@ fn put_links<M: Machine>(page: &mut Page, v: &View<M>, links: &[Edge]) -> Result
     ensures long { IfErr result (Over page.old.room (length (added page.old
         (lines (map (link_line (shown M.meaning v.now)) links.now))).text)) }
 {
+    let mut tag = tag_of(v, 0);
     let mut buf = [0; MOST_LINK];
     for e in links {
-        let start = write_link(v, *e, &mut buf);
+        let start = write_link(v, *e, &mut tag, &mut buf);
         page.put_line(&buf[start..])?;
     }
     Ok(())
 }
 
-/// The most bytes of the line of a link: two tags, each with two numbers below 2^32, four bytes
-/// between them, the longest word with a space on each side, and a number below 2^64.
+/// The most bytes of the line of a link: two tags, four bytes between them, the longest word with a space on
+/// each side, and a number below 2^64.
 const MOST_LINK: usize = 80;
 
-/// Writes the line of a link at the end of a buffer, and answers where it starts.
-fn write_link<M: Machine>(v: &View<M>, e: Edge, buf: &mut [u8; MOST_LINK]) -> usize
+/// Writes the line of a link at the end of a buffer, and answers where it starts. In a chain each link begins
+/// with the row that the one before ended with, so that row's tag is kept for it.
+#[inline(always)]
+fn write_link<M: Machine>(
+    v: &View<M>,
+    e: Edge,
+    tag: &mut RowTag,
+    buf: &mut [u8; MOST_LINK],
+) -> usize
     requires some { 0 < length v.now.body.now }
+    requires tag { IsTag (shown M.meaning v.now) tag.old }
+    ensures tag { IsTag (shown M.meaning v.now) tag.new }
     ensures within { result ≤ 80 }
     ensures written { drop result buf.new ≡ link_line (shown M.meaning v.now) e }
 {
+    retag(v, e.from, tag);
+    let to = tag_of(v, e.to);
     let start = write_digits(e.cost, buf, MOST_LINK);
-    let start = write_before(b" ", buf, start);
-    let start = write_before(kind_word(e.kind), buf, start);
-    let start = write_before(b" ", buf, start);
-    let start = write_tag(v, e.to, buf, start);
+    let start = write_kind(e.kind, buf, start);
+    let start = write_tag(&to, buf, start);
     let start = write_before(b" -> ", buf, start);
-    write_tag(v, e.from, buf, start)
+    let start = write_tag(tag, buf, start);
+    *tag = to;
+    start
 }
 
-/// Writes the tag of a row so that it ends where `end` says, and answers where it starts.
-fn write_tag<M: Machine>(v: &View<M>, j: u32, buf: &mut [u8], end: usize) -> usize
+/// The most bytes of a tag: two numbers below 2^32, and three bytes about them.
+const MOST_TAG: usize = 23;
+
+/// The tag of a row, kept at the end of its bytes.
+#[derive(Drop)]
+struct RowTag {
+    row: u32,
+    start: usize,
+    bytes: [u8; MOST_TAG],
+}
+
+/// Makes the tag that of a row, which it mostly is.
+#[inline(always)]
+fn retag<M: Machine>(v: &View<M>, row: u32, tag: &mut RowTag)
     requires some { 0 < length v.now.body.now }
+    requires tag { IsTag (shown M.meaning v.now) tag.old }
+    ensures tag { IsTag (shown M.meaning v.now) tag.new }
+    ensures row { tag.new.row ≡ row }
+{
+    if tag.row != row {
+        *tag = tag_of(v, row);
+    }
+}
+
+/// The tag of a row.
+#[inline(always)]
+fn tag_of<M: Machine>(v: &View<M>, row: u32) -> RowTag
+    requires { 0 < length v.now.body.now }
+    ensures tag { IsTag (shown M.meaning v.now) result }
+    ensures row { result.row ≡ row }
+{
+    let j = row as usize;
+    let mut bytes = [0; MOST_TAG];
+    let start = write_before(b"]", &mut bytes, MOST_TAG);
+    let start = write_digits((j % v.body.len()) as u64, &mut bytes, start);
+    let start = write_before(b",", &mut bytes, start);
+    let start = write_digits((j / v.body.len()) as u64, &mut bytes, start);
+    let start = write_before(b"[", &mut bytes, start);
+    RowTag { row, start, bytes }
+}
+
+/// Writes a tag so that it ends where `end` says, and answers where it starts. What lies before it there is
+/// written over.
+fn write_tag(tag: &RowTag, buf: &mut [u8], end: usize) -> usize
+    requires within { tag.now.start ≤ 23 }
     requires low { 23 ≤ end }
     requires high { end ≤ length buf.old }
-    ensures start { result + length (row_tag (shown M.meaning v.now) j) ≡ end }
-    ensures short { end ≤ result + 23 }
-    ensures written { drop result buf.new
-        ≡ row_tag (shown M.meaning v.now) j ++ drop end buf.old }
+    ensures start { result ≡ end - 23 + tag.now.start }
+    ensures written { drop result buf.new ≡ drop tag.now.start tag.now.bytes ++ drop end buf.old }
 {
-    let j = j as usize;
-    let start = write_before(b"]", buf, end);
-    let start = write_digits((j % v.body.len()) as u64, buf, start);
-    let start = write_before(b",", buf, start);
-    let start = write_digits((j / v.body.len()) as u64, buf, start);
-    write_before(b"[", buf, start)
+    write_before(&tag.bytes, buf, end) + tag.start
+}
+
+/// Writes what was waited for, with a space on each side, so that it ends where `end` says, and answers where
+/// it starts.
+fn write_kind(kind: EdgeKind, buf: &mut [u8], end: usize) -> usize
+    requires low { 10 ≤ end }
+    requires high { end ≤ length buf.old }
+    ensures start { result + length (kind_word kind) + 2 ≡ end }
+    ensures short { end ≤ result + 10 }
+    ensures written { drop result buf.new
+        ≡ codes " " ++ kind_word kind ++ codes " " ++ drop end buf.old }
+{
+    match kind {
+        EdgeKind::Register => write_before(b" register ", buf, end),
+        EdgeKind::Memory => write_before(b" memory ", buf, end),
+        EdgeKind::Resource => write_before(b" resource ", buf, end),
+    }
 }
 
 /// Writes bytes so that they end where `end` says, and answers where they start.
@@ -325,16 +389,4 @@ fn write_before(bytes: &[u8], buf: &mut [u8], end: usize) -> usize
     let start = end - bytes.len();
     buf[start..end].copy_from_slice(bytes);
     start
-}
-
-/// What was waited for.
-fn kind_word(kind: EdgeKind) -> &'static [u8]
-    ensures is { result.now ≡ kind_word kind }
-    ensures short { length result.now ≤ 8 }
-{
-    match kind {
-        EdgeKind::Register => b"register",
-        EdgeKind::Memory => b"memory",
-        EdgeKind::Resource => b"resource",
-    }
 }

@@ -25,7 +25,7 @@ returns-in_err-put_line-clause-long g c =
     let buf = c.write_link-start.new.buf in
     let whole : take (80 - start) (drop start buf) ≡ drop start buf = take_all (80 - start) (drop start buf) (omega (arith, length-drop start buf)) in
     let f : Edge → List ℕ = link_line (shown g.M.Machine.meaning c.args.v.now) in
-    rw (p.1, p.2) (over_line c.loop-e.page c.args.page.now (map f c.args.links.now) c.loop-e.e-index c.in_err-put_line.field-0.0 (rw (length-map c.args.links.now f) c.loop-e-test.true) c.loop-e.invariant
+    rw (p.1, p.2) (over_line c.loop-e.page c.args.page.now (map f c.args.links.now) c.loop-e.e-index c.in_err-put_line.field-0.0 (rw (length-map c.args.links.now f) c.loop-e-test.true) c.loop-e.invariant.page
     (subst (λ t. Over c.loop-e.page.room (length (added c.loop-e.page (line t)).text) c.in_err-put_line.field-0.0) (line_at f c.args.links.now c.loop-e.e-index (take (80 - start) (drop start buf)) c.loop-e-test.true (whole ∙ c.write_link-start.ensures.written)) c.in_err-put_line.ensures.long))
 
 pub loop-e-preserved : goal.loop-e-preserved
@@ -34,6 +34,9 @@ loop-e-preserved g c =
     let buf = c.write_link-start.new.buf in
     let whole : take (80 - start) (drop start buf) ≡ drop start buf = take_all (80 - start) (drop start buf) (omega (arith, length-drop start buf)) in
     let f : Edge → List ℕ = link_line (shown g.M.Machine.meaning c.args.v.now) in
-    c.in_ok-put_line.ensures.ok
-    ∙ ap (λ t. added c.loop-e.page (line t)) (line_at f c.args.links.now c.loop-e.e-index (take (80 - start) (drop start buf)) c.loop-e-test.true (whole ∙ c.write_link-start.ensures.written))
-    ∙ added_line c.loop-e.page c.args.page.now (map f c.args.links.now) c.loop-e.e-index (rw (length-map c.args.links.now f) c.loop-e-test.true) c.loop-e.invariant
+    record {
+      tag = c.write_link-start.ensures.tag;
+      page = c.in_ok-put_line.ensures.ok
+          ∙ ap (λ t. added c.loop-e.page (line t)) (line_at f c.args.links.now c.loop-e.e-index (take (80 - start) (drop start buf)) c.loop-e-test.true (whole ∙ c.write_link-start.ensures.written))
+          ∙ added_line c.loop-e.page c.args.page.now (map f c.args.links.now) c.loop-e.e-index (rw (length-map c.args.links.now f) c.loop-e-test.true) c.loop-e.invariant.page;
+    }

@@ -1,29 +1,6 @@
-use Rattle.std.proofs.Common.{rules, length, arith}
-use Rattle.mca_views.proofs.Tags.{short_place, short_iteration}
+use Rattle.std.proofs.Common.{arith}
+use Rattle.mca_views.proofs.Tags.{drop_more}
 use Rattle.mca_views.proofs.bottlenecks.write_tag.Goals as goal
 
-pub write_digits-start-requires : goal.write_digits-start-requires
-write_digits-start-requires g c = let place = short_place c.args.j (length c.args.v.now.body.now) c.ranges.j.fits in
-    (omega (arith, place, c.requires.low, c.write_before-start.ensures.start), search rules)
-
-pub write_before-start-requires-2-clause-low : goal.write_before-start-requires-2-clause-low
-write_before-start-requires-2-clause-low g c = let place = short_place c.args.j (length c.args.v.now.body.now) c.ranges.j.fits in
-    omega (arith, place, c.requires.low, c.write_before-start.ensures.start, c.write_digits-start.ensures.start)
-
-pub write_digits-start-requires-2 : goal.write_digits-start-requires-2
-write_digits-start-requires-2 g c =
-    let place = short_place c.args.j (length c.args.v.now.body.now) c.ranges.j.fits in
-    let iteration = short_iteration c.args.j (length c.args.v.now.body.now) c.ranges.j.fits in
-    (omega (arith, place, iteration, c.requires.low, c.write_before-start.ensures.start, c.write_digits-start.ensures.start, c.write_before-start-2.ensures.start), search rules)
-
-pub write_before-requires-clause-low : goal.write_before-requires-clause-low
-write_before-requires-clause-low g c =
-    let place = short_place c.args.j (length c.args.v.now.body.now) c.ranges.j.fits in
-    let iteration = short_iteration c.args.j (length c.args.v.now.body.now) c.ranges.j.fits in
-    omega (arith, place, iteration, c.requires.low, c.write_before-start.ensures.start, c.write_digits-start.ensures.start, c.write_before-start-2.ensures.start, c.write_digits-start-2.ensures.start)
-
-pub returns-clause-short : goal.returns-clause-short
-returns-clause-short g c =
-    let place = short_place c.args.j (length c.args.v.now.body.now) c.ranges.j.fits in
-    let iteration = short_iteration c.args.j (length c.args.v.now.body.now) c.ranges.j.fits in
-    omega (arith, place, iteration, c.write_before-start.ensures.start, c.write_digits-start.ensures.start, c.write_before-start-2.ensures.start, c.write_digits-start-2.ensures.start, c.write_before.ensures.start)
+pub returns-clause-written : goal.returns-clause-written
+returns-clause-written c = drop_more c.write_before.result c.args.tag.now.start c.write_before.new.buf c.args.tag.now.bytes _ (omega arith) c.write_before.ensures.written
