@@ -1,4 +1,4 @@
-use Rattle.std.proofs.Common.{◌≡◌, ◌%◌, ◌∙◌, ap, sym, subst}
+use Rattle.std.proofs.Common.{sym, subst}
 use Rattle.std.specs.Prelude.{slice_index_or}
 use Rattle.cycle_rules.specs.Links.{AreLinks, no_links}
 use Rattle.cycle_rules.specs.Row.{Input, Table, times}

@@ -1,5 +1,5 @@
 use Rattle.std.proofs.Common.{◌-◌, ◌<◌, ℕ, arith, ap}
-use Rattle.cycle_rules.specs.Row.{Input, times}
+use Rattle.cycle_rules.specs.Row.{Input}
 use Rattle.dep_graph.proofs.Summed.{issue_low}
 use Rattle.dep_graph.proofs.reads.value.Goals as goal
 

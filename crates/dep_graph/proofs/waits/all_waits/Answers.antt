@@ -1,4 +1,4 @@
-use Rattle.std.proofs.Common.{◌≡◌, ◌+◌, inl, inr, List, length, arith, sym, ap, subst}
+use Rattle.std.proofs.Common.{◌≡◌, inl, inr, List, length, arith, sym, ap, subst}
 use Rattle.std.proofs.lemmas.Bool.{cases_lt}
 use Rattle.cycle_rules.specs.Row.{Input, Table, times}
 use Rattle.cycle_rules.specs.Waits.{memory_wait}

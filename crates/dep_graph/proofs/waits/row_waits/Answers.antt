@@ -1,4 +1,4 @@
-use Rattle.std.proofs.Common.{◌≡◌, ◌+◌, ◌-◌, arith, sym, ◌∙◌, ap}
+use Rattle.std.proofs.Common.{◌≡◌, ◌+◌, arith, sym, ◌∙◌, ap}
 use Rattle.std.specs.Prelude.{max, if◌then◌else◌}
 use Rattle.cycle_rules.specs.CycleBound.{max_below}
 use Rattle.cycle_rules.specs.Row.{Input, Table, times}
