@@ -9,7 +9,7 @@ ghost use Rattle.dep_graph.specs.Peaks.{AreKept, HaveLinks};
 ghost use Rattle.dep_graph.specs.RunGraph.{IsGraphOf, IsIssueOrder};
 ghost use Rattle.dep_graph.specs.Taking.{IsTaking, wait_edge};
 ghost use Rattle.dep_graph.specs.Turns.{AreSlots};
-ghost use Rattle.dep_graph.specs.WaitSums.{AreSums};
+ghost use Rattle.dep_graph.specs.WaitSums.{AreSums, AreSumsAlong};
 ghost use Rattle.dep_graph.specs.Walk.{IsSoundRun};
 
 use crate::holders::Taker;
@@ -18,7 +18,7 @@ use crate::order::{IssueOrder, issue_order};
 use crate::rows::{Rows, Run};
 use crate::sums::WaitSums;
 use crate::unit_waits::unit_wait;
-use crate::waits::{AllWaits, Wait, Waits, all_waits, register_wait};
+use crate::waits::{RowWaits, Wait, Waits, memory_waits, register_wait};
 use critical_chain::{Edge, EdgeKind, Graph};
 use cycle_rules::{Bound, Links, Timeline, all_links};
 use machine_model::Machine;
@@ -113,13 +113,8 @@ fn waits_of<M: Machine, R: Rows>(
         (R.input rows.now).rows waits.sums) }
 {
     let IssueOrder { order, slots } = issue_order(alloc, rows)?;
-    let AllWaits {
-        memory,
-        sums,
-        count,
-    } = all_waits(alloc, rows, links)?;
-    let room = Vec::with_capacity(alloc, count)?;
-    let edges = all_edges(alloc, machine, rows, links, &memory, &order, &slots, room)?;
+    let memory = memory_waits(alloc, rows, links)?;
+    let Waited { edges, sums } = all_edges(alloc, machine, rows, links, &memory, &order, &slots)?;
     let graph = Graph {
         rows: rows.count() as u32,
         order: Items::from_vec(order),
@@ -144,8 +139,14 @@ fn push_wait(edges: &mut Vec<Edge>, kind: EdgeKind, row: u32, wait: Wait) -> Res
     Ok(())
 }
 
-// The edges of all waits, by the rows in issue order and their waits for the order of memory. `edges`
-// has none so far, but room for them.
+// The edges of waits, and the waits added up.
+#[derive(Drop)]
+struct Waited {
+    edges: Vec<Edge>,
+    sums: WaitSums,
+}
+
+// Those of all rows, by the rows in issue order and their waits for the order of memory.
 fn all_edges<M: Machine, R: Rows>(
     alloc: Global,
     machine: &M,
@@ -154,8 +155,7 @@ fn all_edges<M: Machine, R: Rows>(
     memory: &MemoryWaits,
     order: &[u32],
     slots: &[u64],
-    edges: Vec<Edge>,
-) -> Result<Vec<Edge>, NoMemory>
+) -> Result<Waited, NoMemory>
     requires run { IsSoundRun (R.input rows.now) (R.table rows.now) }
     requires machine { M.meaning machine.now ≡ (R.input rows.now).machine }
     requires links { HaveLinks (R.input rows.now) (R.size rows.now) links.now }
@@ -163,10 +163,13 @@ fn all_edges<M: Machine, R: Rows>(
         memory.now.waits.items }
     requires order { IsIssueOrder (R.input rows.now) (times (R.table rows.now)) order.now }
     requires slots { AreSlots (R.input rows.now) (times (R.table rows.now)) slots.now }
-    requires none { edges.items ≡ [] }
-    ensures { IfOk result (λ edges. edges.items ≡ edges_along (R.input rows.now)
+    ensures edges { IfOk result (λ waited. waited.edges.items ≡ edges_along (R.input rows.now)
         (times (R.table rows.now)) order.now) }
+    ensures sums { IfOk result (λ waited. AreSumsAlong (R.input rows.now) (times (R.table rows.now))
+        order.now (length order.now) waited.sums) }
 {
+    // Most rows wait for one thing, if for any.
+    let edges = Vec::with_capacity(alloc, rows.count())?;
     let mut units = Units::make(alloc, machine)?;
     let mut last = vec![in alloc; Taker { place: 0, until: 0 }; M::UNITS]?;
     edges_in_order(
@@ -185,7 +188,7 @@ fn edges_in_order<M: Machine, R: Rows>(
     order: &[u32],
     slots: &[u64],
     edges: Vec<Edge>,
-) -> Result<Vec<Edge>, NoMemory>
+) -> Result<Waited, NoMemory>
     requires run { IsSoundRun (R.input rows.now) (R.table rows.now) }
     requires machine { M.meaning machine.now ≡ (R.input rows.now).machine }
     requires links { HaveLinks (R.input rows.now) (R.size rows.now) links.now }
@@ -196,10 +199,13 @@ fn edges_in_order<M: Machine, R: Rows>(
     requires none { edges.items ≡ [] }
     requires taking { IsTaking M.meaning M.Mask.holds (R.input rows.now) (times (R.table rows.now))
         order.now 0 0 units.old last.old }
-    ensures { IfOk result (λ edges. edges.items ≡ edges_along (R.input rows.now)
+    ensures edges { IfOk result (λ waited. waited.edges.items ≡ edges_along (R.input rows.now)
         (times (R.table rows.now)) order.now) }
+    ensures sums { IfOk result (λ waited. AreSumsAlong (R.input rows.now) (times (R.table rows.now))
+        order.now (length order.now) waited.sums) }
 {
     let mut edges = edges;
+    let mut sums = WaitSums::none();
     let mut taken = 0;
     for i in 0..order.len() {
         let row = order[i];
@@ -209,10 +215,15 @@ fn edges_in_order<M: Machine, R: Rows>(
         };
         push_wait(&mut edges, EdgeKind::Register, row, before.register)?;
         push_wait(&mut edges, EdgeKind::Memory, row, before.memory)?;
-        let wait = unit_wait(
+        let found = unit_wait(
             machine, rows, units, last, order, slots, &mut taken, i, before,
         );
-        push_wait(&mut edges, EdgeKind::Resource, row, wait)?;
+        push_wait(&mut edges, EdgeKind::Resource, row, found.wait)?;
+        let waits = RowWaits {
+            before,
+            units: found.cycles,
+        };
+        sums = sums.with_row(rows, order, i, waits);
     }
-    Ok(edges)
+    Ok(Waited { edges, sums })
 }

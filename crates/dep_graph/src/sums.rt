@@ -1,8 +1,9 @@
 //! How long the rows of a run waited, added up.
-ghost use Rattle.std.specs.Prelude.{◌≡◌, ◌<◌, ◌+◌};
+ghost use Rattle.std.specs.Prelude.{◌≡◌, ◌<◌, ◌+◌, ℕ, List, length, slice_index};
 ghost use Rattle.cycle_rules.specs.Row.{Input, Table, times};
 ghost use Rattle.dep_graph.specs.Peaks.{AreRowWaits};
-ghost use Rattle.dep_graph.specs.WaitSums.{AreSums};
+ghost use Rattle.dep_graph.specs.RunGraph.{IsIssueOrder};
+ghost use Rattle.dep_graph.specs.WaitSums.{AreSumsAlong};
 ghost use Rattle.dep_graph.specs.Walk.{IsSoundRun};
 
 use crate::rows::Rows;
@@ -22,7 +23,7 @@ pub struct WaitSums {
 impl WaitSums {
     /// Those of no row.
     pub(crate) fn none() -> WaitSums
-        ensures { (g : Input) (t : Table) → AreSums g t 0 result }
+        ensures { (g : Input) (t : Table) (order : List ℕ) → AreSumsAlong g t order 0 result }
     {
         WaitSums {
             registers: 0,
@@ -31,13 +32,22 @@ impl WaitSums {
         }
     }
 
-    /// With the waits of row j.
-    pub(crate) fn with_row<R: Rows>(self, rows: &R, row: RowWaits, j: usize) -> WaitSums
+    /// With the waits of the row at a place of the issue order.
+    pub(crate) fn with_row<R: Rows>(
+        self,
+        rows: &R,
+        order: &[u32],
+        i: usize,
+        row: RowWaits,
+    ) -> WaitSums
         requires run { IsSoundRun (R.input rows.now) (R.table rows.now) }
-        requires row { j < (R.input rows.now).rows }
-        requires waits { AreRowWaits (R.input rows.now) (times (R.table rows.now)) j row }
-        requires sums { AreSums (R.input rows.now) (times (R.table rows.now)) j self }
-        ensures { AreSums (R.input rows.now) (times (R.table rows.now)) (j + 1) result }
+        requires order { IsIssueOrder (R.input rows.now) (times (R.table rows.now)) order.now }
+        requires place { i < length order.now }
+        requires waits { AreRowWaits (R.input rows.now) (times (R.table rows.now))
+            (slice_index order.now i) row }
+        requires sums { AreSumsAlong (R.input rows.now) (times (R.table rows.now)) order.now i self }
+        ensures { AreSumsAlong (R.input rows.now) (times (R.table rows.now)) order.now (i + 1)
+            result }
     {
         WaitSums {
             registers: self.registers + row.before.register.cycles,

@@ -123,6 +123,15 @@ fn wait_for(cycles: u64, row: Option<u32>) -> Wait
     }
 }
 
+/// The wait of a row for units.
+#[derive(Clone, Copy, Debug)]
+pub struct UnitWait {
+    /// For how many cycles it waited.
+    pub cycles: u64,
+    /// The wait for which a row is blamed.
+    pub wait: Wait,
+}
+
 /// The wait of the row at a place of the order for units, and the row that is blamed for it.
 pub fn unit_wait<M: Machine, R: Rows>(
     machine: &M,
@@ -134,7 +143,7 @@ pub fn unit_wait<M: Machine, R: Rows>(
     taken: &mut usize,
     i: usize,
     waits: Waits,
-) -> Wait
+) -> UnitWait
     requires run { IsSoundRun (R.input rows.now) (R.table rows.now) }
     requires order { IsIssueOrder (R.input rows.now) (times (R.table rows.now)) order.now }
     requires slots { AreSlots (R.input rows.now) (times (R.table rows.now)) slots.now }
@@ -146,10 +155,12 @@ pub fn unit_wait<M: Machine, R: Rows>(
         order.now taken.old i units.old last.old }
     ensures taking { IsTaking M.meaning M.Mask.holds (R.input rows.now) (times (R.table rows.now))
         order.now taken.new (i + 1) units.new last.new }
+    ensures cycles { result.cycles ≡ resource_wait (R.input rows.now) (times (R.table rows.now))
+        (slice_index order.now i) }
     ensures wait { edge_of Resource (resource_wait (R.input rows.now) (times (R.table rows.now))
         (slice_index order.now i)) (slice_index order.now i) (resource_blamed
         (R.input rows.now) (times (R.table rows.now)) (slice_index order.now i))
-        ≡ wait_edge Resource (slice_index order.now i) result }
+        ≡ wait_edge Resource (slice_index order.now i) result.wait }
 {
     let j = order[i] as usize;
     let times = rows.times(j);
@@ -157,13 +168,18 @@ pub fn unit_wait<M: Machine, R: Rows>(
     let from = earliest(times.dispatch, slots[j]);
     let ordered = from + waits.register.cycles + waits.memory.cycles;
     if ordered == issue {
-        return wait_for(0, None);
+        return UnitWait {
+            cycles: 0,
+            wait: wait_for(0, None),
+        };
     }
     let asks = issue - 1;
     take_before(rows, units, last, order, slots, taken, i);
     units.release_until(asks);
-    wait_for(
-        issue - ordered,
-        blamed(machine, rows, units, last, order, *taken, j, asks),
-    )
+    let cycles = issue - ordered;
+    let row = blamed(machine, rows, units, last, order, *taken, j, asks);
+    UnitWait {
+        cycles,
+        wait: wait_for(cycles, row),
+    }
 }

@@ -2,10 +2,9 @@
 ghost use Rattle.std.specs.Prelude.{◌≡◌, ◌<◌, ◌+◌, ◌-◌, ◌^◌, IfOk, if◌then◌else◌};
 ghost use Rattle.cycle_rules.specs.Bind.{row_of};
 ghost use Rattle.cycle_rules.specs.Row.{times};
-ghost use Rattle.cycle_rules.specs.Waits.{register_wait};
-ghost use Rattle.dep_graph.specs.Blamed.{register_blamed};
-ghost use Rattle.dep_graph.specs.Peaks.{AreFences, AreKept, AreRowWaits, HaveLinks, IsWait};
-ghost use Rattle.dep_graph.specs.WaitSums.{AreSums};
+ghost use Rattle.cycle_rules.specs.Waits.{register_wait, memory_wait};
+ghost use Rattle.dep_graph.specs.Blamed.{register_blamed, memory_blamed};
+ghost use Rattle.dep_graph.specs.Peaks.{AreFences, AreKept, HaveLinks, IsWait};
 ghost use Rattle.dep_graph.specs.Walk.{IsSoundRun};
 
 use crate::memory::Fences;
@@ -13,7 +12,6 @@ use crate::memory_waits::MemoryWaits;
 use crate::peak::Peak;
 use crate::reads::late;
 use crate::rows::Rows;
-use crate::sums::WaitSums;
 use cycle_rules::{Bound, Links, Times};
 use mca_fixed::NoMemory;
 use std::alloc::Global;
@@ -40,36 +38,12 @@ pub struct RowWaits {
     pub units: u64,
 }
 
-/// The waits of all rows.
-#[derive(Drop)]
-pub struct AllWaits {
-    /// Those for the order of memory, row by row.
-    pub memory: MemoryWaits,
-    /// Those of each kind, added up.
-    pub sums: WaitSums,
-    /// How many waits there are, of rows for one thing.
-    pub count: usize,
-}
-
 // The first cycle in which a row may issue at all.
 fn earliest(reserved: bool, dispatch: u64) -> u64
     requires { dispatch < 2 ^ 42 }
     ensures { result ≡ (if reserved then dispatch else dispatch + 1) }
 {
     if reserved { dispatch } else { dispatch + 1 }
-}
-
-// 1 for a wait above 0, else 0.
-fn one_if(cycles: u64) -> usize {
-    if cycles > 0 { 1 } else { 0 }
-}
-
-// How many of the waits of a row are above 0, and so many more. Room for edges is taken by it, and
-// nothing else rests on it.
-fn and_more(row: RowWaits, more: usize) -> usize {
-    let registers = more.saturating_add(one_if(row.before.register.cycles));
-    let accesses = registers.saturating_add(one_if(row.before.memory.cycles));
-    accesses.saturating_add(one_if(row.units))
 }
 
 // What is waited from one cycle on until what comes last.
@@ -95,76 +69,66 @@ pub fn register_wait<R: Rows>(rows: &R, links: &[Links], j: usize) -> Wait
     until(from, late(rows, links, j))
 }
 
-// The waits of row j, which is a bound instruction, by its times, and by when the older rows let it
-// go.
-fn row_waits<R: Rows>(
+// The wait of row j, which is a bound instruction, for the order of memory, by its times, and by when
+// the older rows let it go.
+fn memory_wait<R: Rows>(
     rows: &R,
     links: &[Links],
     fences: &Fences,
     b: &Bound,
     at: &Times,
     j: usize,
-) -> RowWaits
+) -> Wait
     requires run { IsSoundRun (R.input rows.now) (R.table rows.now) }
     requires links { HaveLinks (R.input rows.now) (R.size rows.now) links.now }
     requires row { j < (R.input rows.now).rows }
     requires fences { AreFences (R.input rows.now) (times (R.table rows.now)) j fences.now }
     requires instruction { row_of b.now ≡ (R.input rows.now).row j }
     requires at { at.now ≡ times (R.table rows.now) j }
-    ensures { AreRowWaits (R.input rows.now) (times (R.table rows.now)) j result }
+    ensures { IsWait (memory_wait (R.input rows.now) (times (R.table rows.now)) j)
+        (memory_blamed (R.input rows.now) (times (R.table rows.now)) j) result }
 {
-    let register = register_wait(rows, links, j);
-    let ready = earliest(b.reserved, at.dispatch) + register.cycles;
     let fence = fences.of_kind(b.kind);
-    let ordered = ready.max(fence.time);
-    RowWaits {
-        before: Waits {
-            register,
-            memory: until(ready, fence),
-        },
-        units: at.issue - ordered,
+    if fence.time == 0 {
+        return until(0, fence);
     }
+    let register = register_wait(rows, links, j);
+    until(earliest(b.reserved, at.dispatch) + register.cycles, fence)
 }
 
-// Lets row j go by, and gives its waits.
-fn pass<R: Rows>(rows: &R, links: &[Links], fences: &mut Fences, j: usize) -> RowWaits
+// Lets row j go by, and gives its wait for the order of memory.
+fn pass<R: Rows>(rows: &R, links: &[Links], fences: &mut Fences, j: usize) -> Wait
     requires run { IsSoundRun (R.input rows.now) (R.table rows.now) }
     requires links { HaveLinks (R.input rows.now) (R.size rows.now) links.now }
     requires row { j < (R.input rows.now).rows }
     requires fences { AreFences (R.input rows.now) (times (R.table rows.now)) j fences.old }
     ensures fences { AreFences (R.input rows.now) (times (R.table rows.now)) (j + 1) fences.new }
-    ensures waits { AreRowWaits (R.input rows.now) (times (R.table rows.now)) j result }
+    ensures wait { IsWait (memory_wait (R.input rows.now) (times (R.table rows.now)) j)
+        (memory_blamed (R.input rows.now) (times (R.table rows.now)) j) result }
 {
     let b = rows.instruction(j);
     let at = rows.times(j);
-    let waits = row_waits(rows, links, fences, b, at, j);
+    let wait = memory_wait(rows, links, fences, b, at, j);
     let no_alias = rows.limits().no_alias;
     fences.pass(j as u32, b.kind, no_alias, at.issue, at.complete);
-    waits
+    wait
 }
 
-/// The waits of all rows.
-pub fn all_waits<R: Rows>(alloc: Global, rows: &R, links: &[Links]) -> Result<AllWaits, NoMemory>
+/// The waits of all rows for the order of memory.
+pub fn memory_waits<R: Rows>(
+    alloc: Global,
+    rows: &R,
+    links: &[Links],
+) -> Result<MemoryWaits, NoMemory>
     requires run { IsSoundRun (R.input rows.now) (R.table rows.now) }
     requires links { HaveLinks (R.input rows.now) (R.size rows.now) links.now }
-    ensures memory { IfOk result (λ all. AreKept (R.input rows.now) (times (R.table rows.now))
-        (R.input rows.now).rows all.memory.waits.items) }
-    ensures sums { IfOk result (λ all. AreSums (R.input rows.now) (times (R.table rows.now))
-        (R.input rows.now).rows all.sums) }
+    ensures { IfOk result (λ kept. AreKept (R.input rows.now) (times (R.table rows.now))
+        (R.input rows.now).rows kept.waits.items) }
 {
     let mut fences = Fences::none();
-    let mut sums = WaitSums::none();
-    let mut count = 0;
     let mut memory = MemoryWaits::none(alloc, rows.count())?;
     for j in 0..rows.count() {
-        let row = pass(rows, links, &mut fences, j);
-        sums = sums.with_row(rows, row, j);
-        count = and_more(row, count);
-        memory.keep(j, row.before.memory)?;
+        memory.keep(j, pass(rows, links, &mut fences, j))?;
     }
-    Ok(AllWaits {
-        memory,
-        sums,
-        count,
-    })
+    Ok(memory)
 }

@@ -12,8 +12,8 @@ use Rattle.dep_graph.specs.declared.waits.Waits.{Waits}
 use Rattle.dep_graph.proofs.Forward.{edge_wait, along_more, three_pushed}
 use Rattle.dep_graph.proofs.graph.edges_in_order.Goals as goal
 
-pub unit_wait-wait-requires-clause-waits : goal.unit_wait-wait-requires-clause-waits
-unit_wait-wait-requires-clause-waits g c =
+pub unit_wait-found-requires-clause-waits : goal.unit_wait-found-requires-clause-waits
+unit_wait-found-requires-clause-waits g c =
     let run : Input = g.R.Rows.input c.args.rows.now in
     let t : Table = times (g.R.Rows.table c.args.rows.now) in
     let j : ℕ = slice_index c.args.order.now c.loop-i.i in
@@ -21,6 +21,20 @@ unit_wait-wait-requires-clause-waits g c =
     record {
       register = c.register_wait.ensures;
       memory = subst (IsWait (memory_wait run t j) (memory_blamed run t j)) (sym c.of.ensures) (c.requires.memory j lj);
+    }
+
+pub with_row-sums-requires-clause-waits : goal.with_row-sums-requires-clause-waits
+with_row-sums-requires-clause-waits g c =
+    let run : Input = g.R.Rows.input c.args.rows.now in
+    let t : Table = times (g.R.Rows.table c.args.rows.now) in
+    let j : ℕ = slice_index c.args.order.now c.loop-i.i in
+    let lj : j < run.rows = c.requires.order.all.below c.loop-i.i (omega (arith, c.loop-i-test.true, c.requires.order.all.rows)) in
+    record {
+      before = record {
+        register = c.register_wait.ensures;
+        memory = subst (IsWait (memory_wait run t j) (memory_blamed run t j)) (sym c.of.ensures) (c.requires.memory j lj);
+      };
+      units = c.unit_wait-found.ensures.cycles;
     }
 
 pub loop-i-preserved : goal.loop-i-preserved
@@ -37,17 +51,18 @@ loop-i-preserved g c =
     let old : List Edge = c.loop-i.edges.items in
     let a : List Edge = wait_edge Register j before.register in
     let b : List Edge = wait_edge Memory j before.memory in
-    let e : List Edge = wait_edge Resource j c.unit_wait-wait.result in
+    let e : List Edge = wait_edge Resource j c.unit_wait-found.result.wait in
     let one : c.push_wait.new.edges.items ≡ old ++ a = c.in_ok-push_wait.ensures in
     let two : c.push_wait-in-loop-i.new.edges.items ≡ c.push_wait.new.edges.items ++ b = c.in_ok-push_wait-2.ensures in
     let three : c.push_wait-in-loop-i-2.new.edges.items ≡ c.push_wait-in-loop-i.new.edges.items ++ e = c.in_ok-push_wait-3.ensures in
     record {
-      taking = c.unit_wait-wait.ensures.taking;
+      taking = c.unit_wait-found.ensures.taking;
+      sums = c.with_row-sums.ensures;
       edges = three ∙ ap (λ l. l ++ e) (two ∙ ap (λ l. l ++ b) one)
-          ∙ three_pushed run t j old a b e (sym (edge_wait Register j (register_wait run t j) (register_blamed run t j) before.register waits.register)) (sym (edge_wait Memory j (memory_wait run t j) (memory_blamed run t j) before.memory waits.memory)) (sym c.unit_wait-wait.ensures.wait)
+          ∙ three_pushed run t j old a b e (sym (edge_wait Register j (register_wait run t j) (register_blamed run t j) before.register waits.register)) (sym (edge_wait Memory j (memory_wait run t j) (memory_blamed run t j) before.memory waits.memory)) (sym c.unit_wait-found.ensures.wait)
           ∙ ap (λ l. l ++ edges_to run t j) c.loop-i.invariant.edges
           ∙ sym (along_more run t c.args.order.now c.loop-i.i c.loop-i-test.true);
     }
 
-pub returns : goal.returns
-returns g c = c.loop-i.invariant.edges ∙ ap (edges_along (g.R.Rows.input c.args.rows.now) (times (g.R.Rows.table c.args.rows.now))) (take_all c.loop-i.i c.args.order.now c.loop-i-test.false)
+pub returns-clause-edges : goal.returns-clause-edges
+returns-clause-edges g c = c.loop-i.invariant.edges ∙ ap (edges_along (g.R.Rows.input c.args.rows.now) (times (g.R.Rows.table c.args.rows.now))) (take_all c.loop-i.i c.args.order.now c.loop-i-test.false)

@@ -54,6 +54,20 @@ returns-then-ordered-issue-clause-wait g c =
     let none : resource_wait run t j ≡ 0 = omega (arith, c.if-ordered-issue.true, ordered, cycle) in
     ap (λ n. edge_of Resource n j (resource_blamed run t j)) none ∙ c.wait_for.ensures Resource j
 
+pub returns-then-ordered-issue-clause-cycles : goal.returns-then-ordered-issue-clause-cycles
+returns-then-ordered-issue-clause-cycles g c =
+    let run : Input = g.R.Rows.input c.args.rows.now in
+    let t : Table = times (g.R.Rows.table c.args.rows.now) in
+    let j : ℕ = slice_index c.args.order.now c.args.i in
+    let li : c.args.i < run.rows = omega (arith, c.requires.place, c.requires.order.all.rows) in
+    let lj : j < run.rows = c.requires.order.all.below c.args.i li in
+    let waits = waits_sum run t j c.requires.run.run.each lj in
+    let early = issue_early run t j c.requires.run.run.each lj in
+    let cycle : c.times-times.result.now.issue ≡ (t j).issue = ap (λ r. r.issue) c.times-times.ensures in
+    let from : c.earliest-from.result ≡ earliest run t j = c.earliest-from.ensures (t j).issue (run.row j).reserved (c.requires.slots.each j lj) ∙ ap (λ r. if (run.row j).reserved then r.dispatch else r.dispatch + 1) c.times-times.ensures in
+    let ordered : c.earliest-from.result + c.args.waits.register.cycles + c.args.waits.memory.cycles ≡ memory_at run t j = omega (arith, from, c.requires.waits.register.is, c.requires.waits.memory.is, waits.0, waits.1) in
+    omega (arith, c.if-ordered-issue.true, ordered, cycle)
+
 pub take_before-requires-clause-some : goal.take_before-requires-clause-some
 take_before-requires-clause-some g c =
     let run : Input = g.R.Rows.input c.args.rows.now in
@@ -98,8 +112,8 @@ release_until-requires g c =
     let ordered : c.earliest-from.result + c.args.waits.register.cycles + c.args.waits.memory.cycles ≡ memory_at run t j = omega (arith, from, c.requires.waits.register.is, c.requires.waits.memory.is, waits.0, waits.1) in
     omega (arith, cycle, early.1, early.2, c.requires.run.early j lj)
 
-pub overflow_sub-issue : goal.overflow_sub-issue
-overflow_sub-issue g c =
+pub overflow_sub-cycles : goal.overflow_sub-cycles
+overflow_sub-cycles g c =
     let run : Input = g.R.Rows.input c.args.rows.now in
     let t : Table = times (g.R.Rows.table c.args.rows.now) in
     let j : ℕ = slice_index c.args.order.now c.args.i in
@@ -112,11 +126,11 @@ overflow_sub-issue g c =
     let ordered : c.earliest-from.result + c.args.waits.register.cycles + c.args.waits.memory.cycles ≡ memory_at run t j = omega (arith, from, c.requires.waits.register.is, c.requires.waits.memory.is, waits.0, waits.1) in
     omega (arith, ordered, cycle, waits.2)
 
-pub blamed-requires-clause-cycle : goal.blamed-requires-clause-cycle
-blamed-requires-clause-cycle g c = ap (λ r. r.issue - 1) c.times-times.ensures
+pub blamed-row-requires-clause-cycle : goal.blamed-row-requires-clause-cycle
+blamed-row-requires-clause-cycle g c = ap (λ r. r.issue - 1) c.times-times.ensures
 
-pub blamed-requires-clause-holders : goal.blamed-requires-clause-holders
-blamed-requires-clause-holders g c =
+pub blamed-row-requires-clause-holders : goal.blamed-row-requires-clause-holders
+blamed-row-requires-clause-holders g c =
     let run : Input = g.R.Rows.input c.args.rows.now in
     let t : Table = times (g.R.Rows.table c.args.rows.now) in
     let j : ℕ = slice_index c.args.order.now c.args.i in
@@ -152,6 +166,20 @@ returns-clause-taking g c =
       machine = c.release_until.ensures.machine ∙ c.take_before.ensures.taking.machine;
     }
 
+pub returns-clause-cycles : goal.returns-clause-cycles
+returns-clause-cycles g c =
+    let run : Input = g.R.Rows.input c.args.rows.now in
+    let t : Table = times (g.R.Rows.table c.args.rows.now) in
+    let j : ℕ = slice_index c.args.order.now c.args.i in
+    let li : c.args.i < run.rows = omega (arith, c.requires.place, c.requires.order.all.rows) in
+    let lj : j < run.rows = c.requires.order.all.below c.args.i li in
+    let waits = waits_sum run t j c.requires.run.run.each lj in
+    let early = issue_early run t j c.requires.run.run.each lj in
+    let cycle : c.times-times.result.now.issue ≡ (t j).issue = ap (λ r. r.issue) c.times-times.ensures in
+    let from : c.earliest-from.result ≡ earliest run t j = c.earliest-from.ensures (t j).issue (run.row j).reserved (c.requires.slots.each j lj) ∙ ap (λ r. if (run.row j).reserved then r.dispatch else r.dispatch + 1) c.times-times.ensures in
+    let ordered : c.earliest-from.result + c.args.waits.register.cycles + c.args.waits.memory.cycles ≡ memory_at run t j = omega (arith, from, c.requires.waits.register.is, c.requires.waits.memory.is, waits.0, waits.1) in
+    omega (arith, ordered, cycle)
+
 pub returns-clause-wait : goal.returns-clause-wait
 returns-clause-wait g c =
     let run : Input = g.R.Rows.input c.args.rows.now in
@@ -165,7 +193,7 @@ returns-clause-wait g c =
     let from : c.earliest-from.result ≡ earliest run t j = c.earliest-from.ensures (t j).issue (run.row j).reserved (c.requires.slots.each j lj) ∙ ap (λ r. if (run.row j).reserved then r.dispatch else r.dispatch + 1) c.times-times.ensures in
     let ordered : c.earliest-from.result + c.args.waits.register.cycles + c.args.waits.memory.cycles ≡ memory_at run t j = omega (arith, from, c.requires.waits.register.is, c.requires.waits.memory.is, waits.0, waits.1) in
     let cycles : resource_wait run t j ≡ c.times-times.result.now.issue - (c.earliest-from.result + c.args.waits.register.cycles + c.args.waits.memory.cycles) = omega (arith, ordered, cycle) in
-    (λ i. edge_of Resource (cycles i) j (sym c.blamed.ensures i)) ∙ c.wait_for-2.ensures Resource j
+    (λ i. edge_of Resource (cycles i) j (sym c.blamed-row.ensures i)) ∙ c.wait_for-2.ensures Resource j
 
 pub bounds-slots-j : goal.bounds-slots-j
 bounds-slots-j g c =
