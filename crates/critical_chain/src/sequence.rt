@@ -29,7 +29,7 @@ fn links_to(
     ensures { IfOk result (λ links. IsBuilt edges.now (place order.now) (slice_index labels.now)
         end links.items) }
 {
-    let mut links = Vec::new(alloc);
+    let mut links = Vec::with_capacity(alloc, order.len())?;
     let mut v = end;
     let mut n = edges.len();
     let mut high = order.len();
