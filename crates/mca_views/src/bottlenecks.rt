@@ -1,5 +1,5 @@
 //! What held a run up: the waits of its rows, the stalls of dispatch, and the critical sequence.
-ghost use Rattle.std.specs.Prelude.{◌≡◌, ◌≤◌, ◌<◌, ℕ, List, [], ◌∷◌, ◌+◌, ◌-◌, ◌*◌, ◌++◌, map, drop, length, codes, Option, Some, IfOk, OnOk, IfErr, IsOkUnless};
+ghost use Rattle.std.specs.Prelude.{◌≡◌, ◌≤◌, ◌<◌, ℕ, List, [], ◌∷◌, ◌+◌, ◌-◌, ◌*◌, ◌++◌, map, take, drop, length, codes, Option, Some, IfOk, OnOk, IfErr, IsOkUnless};
 ghost use Rattle.critical_chain.specs.declared.graph.Chain.{Chain as ChainOf};
 ghost use Rattle.cycle_rules.specs.Bind.{IsBoundBody};
 ghost use Rattle.cycle_rules.specs.Row.{times};
@@ -7,7 +7,7 @@ ghost use Rattle.cycle_rules.specs.Run.{IsRunOf};
 ghost use Rattle.dep_graph.specs.WaitSums.{AreSums};
 ghost use Rattle.machine_model.specs.Valid.{IsValidMachine};
 ghost use Rattle.mca_words.specs.declared.options.Options.{Options as OptionsOf};
-ghost use Rattle.mca_views.specs.Bottleneck.{IsSequence, IsAsked, HasSums, sequence_of, IsBottleneck, IsOver, sum_lines, waited_lines, stall_lines, IsTag, kind_word, link_line, sequence_lines, bottleneck_lines};
+ghost use Rattle.mca_views.specs.Bottleneck.{IsSequence, IsAsked, HasSums, sequence_of, IsBottleneck, IsOver, sum_lines, waited_lines, stall_lines, IsTag, row_tag, kind_word, link_line, sequence_lines, bottleneck_lines};
 ghost use Rattle.mca_views.specs.Fault.{Over};
 ghost use Rattle.mca_views.specs.Lines.{lines};
 ghost use Rattle.mca_views.specs.Page.{added};
@@ -299,13 +299,12 @@ fn write_link<M: Machine>(
     ensures written { drop result buf.new ≡ link_line (shown M.meaning v.now) e }
 {
     retag(v, e.from, tag);
-    let to = tag_of(v, e.to);
     let start = write_digits(e.cost, buf, MOST_LINK);
-    let start = write_kind(e.kind, buf, start);
-    let start = write_tag(&to, buf, start);
-    let start = write_before(b" -> ", buf, start);
+    let end = write_kind(e.kind, buf, start);
+    let to = write_row(v, e.to, buf, end);
+    let start = write_before(b" -> ", buf, to);
     let start = write_tag(tag, buf, start);
-    *tag = to;
+    keep_tag(tag, e.to, buf, to, end);
     start
 }
 
@@ -333,21 +332,50 @@ fn retag<M: Machine>(v: &View<M>, row: u32, tag: &mut RowTag)
     }
 }
 
-/// The tag of a row.
+/// Makes the tag that of a row, which stands between two places of a buffer.
 #[inline(always)]
+fn keep_tag(tag: &mut RowTag, row: u32, buf: &[u8], start: usize, end: usize)
+    requires low { 23 ≤ end }
+    requires high { end ≤ length buf.now }
+    requires within { start ≤ end }
+    requires short { end ≤ start + 23 }
+    ensures row { tag.new.row ≡ row }
+    ensures start { tag.new.start + end ≡ start + 23 }
+    ensures bytes { drop tag.new.start tag.new.bytes ≡ take (end - start) (drop start buf.now) }
+{
+    tag.row = row;
+    tag.start = start + MOST_TAG - end;
+    tag.bytes.copy_from_slice(&buf[end - MOST_TAG..end]);
+}
+
+/// The tag of a row.
 fn tag_of<M: Machine>(v: &View<M>, row: u32) -> RowTag
     requires { 0 < length v.now.body.now }
     ensures tag { IsTag (shown M.meaning v.now) result }
     ensures row { result.row ≡ row }
 {
-    let j = row as usize;
     let mut bytes = [0; MOST_TAG];
-    let start = write_before(b"]", &mut bytes, MOST_TAG);
-    let start = write_digits((j % v.body.len()) as u64, &mut bytes, start);
-    let start = write_before(b",", &mut bytes, start);
-    let start = write_digits((j / v.body.len()) as u64, &mut bytes, start);
-    let start = write_before(b"[", &mut bytes, start);
+    let start = write_row(v, row, &mut bytes, MOST_TAG);
     RowTag { row, start, bytes }
+}
+
+/// Writes the tag of a row so that it ends where `end` says, and answers where it starts.
+#[inline(always)]
+fn write_row<M: Machine>(v: &View<M>, row: u32, buf: &mut [u8], end: usize) -> usize
+    requires some { 0 < length v.now.body.now }
+    requires low { 23 ≤ end }
+    requires high { end ≤ length buf.old }
+    ensures start { result + length (row_tag (shown M.meaning v.now) row) ≡ end }
+    ensures short { end ≤ result + 23 }
+    ensures written { drop result buf.new
+        ≡ row_tag (shown M.meaning v.now) row ++ drop end buf.old }
+{
+    let j = row as usize;
+    let start = write_before(b"]", buf, end);
+    let start = write_digits((j % v.body.len()) as u64, buf, start);
+    let start = write_before(b",", buf, start);
+    let start = write_digits((j / v.body.len()) as u64, buf, start);
+    write_before(b"[", buf, start)
 }
 
 /// Writes a tag so that it ends where `end` says, and answers where it starts. What lies before it there is
@@ -358,6 +386,7 @@ fn write_tag(tag: &RowTag, buf: &mut [u8], end: usize) -> usize
     requires high { end ≤ length buf.old }
     ensures start { result ≡ end - 23 + tag.now.start }
     ensures written { drop result buf.new ≡ drop tag.now.start tag.now.bytes ++ drop end buf.old }
+    ensures behind { drop end buf.new ≡ drop end buf.old }
 {
     write_before(&tag.bytes, buf, end) + tag.start
 }
@@ -385,6 +414,7 @@ fn write_before(bytes: &[u8], buf: &mut [u8], end: usize) -> usize
     requires high { end ≤ length buf.old }
     ensures start { result + length bytes.now ≡ end }
     ensures written { drop result buf.new ≡ bytes.now ++ drop end buf.old }
+    ensures behind { drop end buf.new ≡ drop end buf.old }
 {
     let start = end - bytes.len();
     buf[start..end].copy_from_slice(bytes);
