@@ -7,6 +7,7 @@ ghost use Rattle.critical_chain.specs.Graph.{IsGraph};
 ghost use Rattle.dep_graph.specs.Blamed.{edges_along};
 ghost use Rattle.dep_graph.specs.Peaks.{AreKept, HaveLinks};
 ghost use Rattle.dep_graph.specs.RunGraph.{IsGraphOf, IsIssueOrder};
+ghost use Rattle.dep_graph.specs.Stalls.{stalls};
 ghost use Rattle.dep_graph.specs.Taking.{IsTaking, wait_edge};
 ghost use Rattle.dep_graph.specs.Turns.{AreSlots};
 ghost use Rattle.dep_graph.specs.WaitSums.{AreSums, AreSumsAlong};
@@ -14,11 +15,12 @@ ghost use Rattle.dep_graph.specs.Walk.{IsSoundRun};
 
 use crate::holders::Taker;
 use crate::memory_waits::MemoryWaits;
-use crate::order::{IssueOrder, issue_order};
+use crate::order::issue_order;
+use crate::passed::{Passed, pass_all};
 use crate::rows::{Rows, Run};
 use crate::sums::WaitSums;
 use crate::unit_waits::unit_wait;
-use crate::waits::{RowWaits, Wait, Waits, memory_waits, register_wait};
+use crate::waits::{RowWaits, Wait, Waits, register_wait};
 use critical_chain::{Edge, EdgeKind, Graph};
 use cycle_rules::{Bound, Links, Timeline, all_links};
 use machine_model::Machine;
@@ -57,16 +59,18 @@ pub fn edges<M: Machine>(
     Ok(waits.graph)
 }
 
-/// The waits of a run as a graph, as `edges` gives it, and added up.
+/// The waits of a run as a graph, as `edges` gives it, and added up; and its stalls, as `stalls` gives
+/// them.
 #[derive(Drop)]
 pub struct RunWaits {
     pub graph: Graph,
     pub sums: WaitSums,
+    pub stalls: [u64; 7],
 }
 
-/// The waits of a run as a graph, and for how many cycles its rows waited in all: each for its
-/// operands, then for the order of memory, then for units. What is given, and what comes of it, is as
-/// for `edges`.
+/// The waits of a run as a graph; for how many cycles its rows waited in all, each for its operands,
+/// then for the order of memory, then for units; and for how many cycles dispatch stalled. What is
+/// given, and what comes of it, is as for `edges` and `stalls`.
 ///
 /// # Errors
 ///
@@ -90,6 +94,8 @@ pub fn run_waits<M: Machine>(
     ensures sums { IfOk result (λ waits. AreSums
         (input (M.meaning machine.now) (map row_of body.now) iterations)
         (times run.now.rows) (iterations * length body.now) waits.sums) }
+    ensures stalls { IfOk result (λ waits. waits.stalls ≡ stalls
+        (input (M.meaning machine.now) (map row_of body.now) iterations) (times run.now.rows)) }
 {
     let links = all_links(alloc, machine, body)?;
     let rows = Run::make(machine, body, iterations as usize, run.rows.as_slice());
@@ -111,16 +117,26 @@ fn waits_of<M: Machine, R: Rows>(
     ensures graph { IfOk result (λ waits. IsGraph waits.graph) }
     ensures sums { IfOk result (λ waits. AreSums (R.input rows.now) (times (R.table rows.now))
         (R.input rows.now).rows waits.sums) }
+    ensures stalls { IfOk result (λ waits. waits.stalls ≡ stalls (R.input rows.now)
+        (times (R.table rows.now))) }
 {
-    let IssueOrder { order, slots } = issue_order(alloc, rows)?;
-    let memory = memory_waits(alloc, rows, links)?;
+    let Passed {
+        slots,
+        memory,
+        stalls,
+    } = pass_all(alloc, rows, links)?;
+    let order = issue_order(alloc, rows, &slots)?;
     let Waited { edges, sums } = all_edges(alloc, machine, rows, links, &memory, &order, &slots)?;
     let graph = Graph {
         rows: rows.count() as u32,
         order: Items::from_vec(order),
         edges: Items::from_vec(edges),
     };
-    Ok(RunWaits { graph, sums })
+    Ok(RunWaits {
+        graph,
+        sums,
+        stalls: stalls.listed(),
+    })
 }
 
 // Adds the edge of a wait of a row, where it waited.

@@ -4,7 +4,8 @@
 //! It goes over the rows in program order, with the rows that hold memory back last, and then in
 //! issue order, with the units and the rows that took them last. Which rows make the values that a
 //! row reads is worked out once for each place of the body.
-//! `run_waits` gives that graph, and the waits added up, by what was waited for.
+//! `run_waits` gives that graph, the waits added up, by what was waited for, and the stalls, which it
+//! counts in its walk in program order.
 //! `stalls` counts the cycles in which the next row did not dispatch, by what it lacked first: each
 //! lack ends in one cycle, so no cycle is looked at.
 //!
@@ -41,6 +42,7 @@ mod holders;
 mod memory;
 mod memory_waits;
 mod order;
+mod passed;
 mod peak;
 mod reads;
 mod rows;

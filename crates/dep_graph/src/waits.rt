@@ -1,20 +1,17 @@
 //! The waits of rows for values and for the order of memory.
-ghost use Rattle.std.specs.Prelude.{◌≡◌, ◌<◌, ◌+◌, ◌-◌, ◌^◌, IfOk, if◌then◌else◌};
+ghost use Rattle.std.specs.Prelude.{◌≡◌, ◌<◌, ◌+◌, ◌-◌, ◌^◌, if◌then◌else◌};
 ghost use Rattle.cycle_rules.specs.Bind.{row_of};
 ghost use Rattle.cycle_rules.specs.Row.{times};
 ghost use Rattle.cycle_rules.specs.Waits.{register_wait, memory_wait};
 ghost use Rattle.dep_graph.specs.Blamed.{register_blamed, memory_blamed};
-ghost use Rattle.dep_graph.specs.Peaks.{AreFences, AreKept, HaveLinks, IsWait};
+ghost use Rattle.dep_graph.specs.Peaks.{AreFences, HaveLinks, IsWait};
 ghost use Rattle.dep_graph.specs.Walk.{IsSoundRun};
 
 use crate::memory::Fences;
-use crate::memory_waits::MemoryWaits;
 use crate::peak::Peak;
 use crate::reads::late;
 use crate::rows::Rows;
 use cycle_rules::{Bound, Links, Times};
-use mca_fixed::NoMemory;
-use std::alloc::Global;
 
 /// A wait in cycles, and the row that is blamed for it, where it is above 0.
 #[derive(Clone, Copy, Debug)]
@@ -96,8 +93,8 @@ fn memory_wait<R: Rows>(
     until(earliest(b.reserved, at.dispatch) + register.cycles, fence)
 }
 
-// Lets row j go by, and gives its wait for the order of memory.
-fn pass<R: Rows>(rows: &R, links: &[Links], fences: &mut Fences, j: usize) -> Wait
+/// Lets row j go by, and gives its wait for the order of memory.
+pub fn pass<R: Rows>(rows: &R, links: &[Links], fences: &mut Fences, j: usize) -> Wait
     requires run { IsSoundRun (R.input rows.now) (R.table rows.now) }
     requires links { HaveLinks (R.input rows.now) (R.size rows.now) links.now }
     requires row { j < (R.input rows.now).rows }
@@ -112,23 +109,4 @@ fn pass<R: Rows>(rows: &R, links: &[Links], fences: &mut Fences, j: usize) -> Wa
     let no_alias = rows.limits().no_alias;
     fences.pass(j as u32, b.kind, no_alias, at.issue, at.complete);
     wait
-}
-
-/// The waits of all rows for the order of memory.
-pub fn memory_waits<R: Rows>(
-    alloc: Global,
-    rows: &R,
-    links: &[Links],
-) -> Result<MemoryWaits, NoMemory>
-    requires run { IsSoundRun (R.input rows.now) (R.table rows.now) }
-    requires links { HaveLinks (R.input rows.now) (R.size rows.now) links.now }
-    ensures { IfOk result (λ kept. AreKept (R.input rows.now) (times (R.table rows.now))
-        (R.input rows.now).rows kept.waits.items) }
-{
-    let mut fences = Fences::none();
-    let mut memory = MemoryWaits::none(alloc, rows.count())?;
-    for j in 0..rows.count() {
-        memory.keep(j, pass(rows, links, &mut fences, j))?;
-    }
-    Ok(memory)
 }

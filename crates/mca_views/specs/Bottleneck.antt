@@ -40,10 +40,14 @@ abbrev pub sequence_of : Option HeldUp → Option Chain
 sequence_of None = None
 sequence_of (Some held) = Some held.chain
 
--- and the sums of the waits of the run
+-- the sums of the waits of the run, and its stalls
+pub record AreCounted (s : Shown) (held : HeldUp) : Type 0 where
+  pub waits : AreSums (run_of s) (times s.table) (s.iterations * length s.body) held.waits
+  pub stalls : held.stalls ≡ stalls (run_of s) (times s.table)
+
 abbrev pub HasSums : Shown → Option HeldUp → Type 0
 HasSums s None = ⊤
-HasSums s (Some held) = AreSums (run_of s) (times s.table) (s.iterations * length s.body) held.waits
+HasSums s (Some held) = AreCounted s held
 
 -- how long all rows waited
 abbrev pub waited : Shown → (Input → Table → ℕ → ℕ) → ℕ

@@ -4,6 +4,7 @@ ghost use Rattle.critical_chain.specs.declared.graph.Chain.{Chain as ChainOf};
 ghost use Rattle.cycle_rules.specs.Bind.{IsBoundBody};
 ghost use Rattle.cycle_rules.specs.Row.{times};
 ghost use Rattle.cycle_rules.specs.Run.{IsRunOf};
+ghost use Rattle.dep_graph.specs.Stalls.{stalls};
 ghost use Rattle.dep_graph.specs.WaitSums.{AreSums};
 ghost use Rattle.machine_model.specs.Valid.{IsValidMachine};
 ghost use Rattle.mca_words.specs.declared.options.Options.{Options as OptionsOf};
@@ -19,7 +20,7 @@ use crate::fault::ViewFault;
 use crate::page::Page;
 use crate::view::View;
 use critical_chain::{Chain, Edge, EdgeKind, critical};
-use dep_graph::{WaitSums, run_waits, stalls};
+use dep_graph::{WaitSums, run_waits};
 use itoa::write_digits;
 use machine_model::Machine;
 use mca_fixed::NoMemory;
@@ -60,6 +61,8 @@ pub struct HeldUp {
     pub chain: Chain,
     /// For how many cycles rows waited, added up.
     pub waits: WaitSums,
+    /// For how many cycles dispatch stalled, by what the next row lacked.
+    pub stalls: [u64; 7],
 }
 
 /// What held a run up, where `-bottleneck-analysis` is on; none where it is off.
@@ -121,6 +124,7 @@ fn held_up<M: Machine>(alloc: Global, v: &View<M>) -> Result<HeldUp, NoMemory>
     Ok(HeldUp {
         chain,
         waits: waits.sums,
+        stalls: waits.stalls,
     })
 }
 
@@ -133,8 +137,6 @@ pub(crate) fn put_bottleneck<M: Machine>(
 ) -> Result<(), ViewFault>
     requires closed { page.old.open_line ≡ [] }
     requires shown { IsShown (shown M.meaning v.now) }
-    requires bound { IsBoundBody (M.meaning v.now.machine.now) v.now.body.now }
-    requires run { IsRunOf (run_of (shown M.meaning v.now)) v.now.run.now.rows }
     requires sums { HasSums (shown M.meaning v.now) (Some held.now) }
     ensures ok { OnOk result (page.new ≡ added page.old
         (lines (bottleneck_lines (shown M.meaning v.now) held.now.chain))) }
@@ -142,7 +144,7 @@ pub(crate) fn put_bottleneck<M: Machine>(
         (lines (bottleneck_lines (shown M.meaning v.now) held.now.chain))).text)) }
 {
     put_waits(alloc, page, v, held.waits)?;
-    put_stalls(alloc, page, v)?;
+    put_stalls(alloc, page, v, held.stalls)?;
     put_sequence(alloc, page, v, &held.chain)?;
     Ok(())
 }
@@ -193,17 +195,19 @@ fn put_sums(
 }
 
 /// For how long dispatch stalled.
-fn put_stalls<M: Machine>(alloc: Global, page: &mut Page, v: &View<M>) -> Result<(), ViewFault>
+fn put_stalls<M: Machine>(
+    alloc: Global,
+    page: &mut Page,
+    v: &View<M>,
+    counts: [u64; 7],
+) -> Result<(), ViewFault>
     requires closed { page.old.open_line ≡ [] }
-    requires shown { IsShown (shown M.meaning v.now) }
-    requires bound { IsBoundBody (M.meaning v.now.machine.now) v.now.body.now }
-    requires run { IsRunOf (run_of (shown M.meaning v.now)) v.now.run.now.rows }
+    requires counts { counts ≡ stalls (run_of (shown M.meaning v.now)) (times v.now.run.now.rows) }
     ensures ok { OnOk result (page.new ≡ added page.old
         (lines (stall_lines (shown M.meaning v.now)))) }
     ensures long { IfErr result (Over page.old.room (length (added page.old
         (lines (stall_lines (shown M.meaning v.now)))).text)) }
 {
-    let counts = stalls(v.machine, v.body, v.iterations, v.run);
     let group = counted(alloc, "Group:", counts[0])?;
     let reorder = counted(alloc, "Reorder buffer:", counts[1])?;
     let registers = counted(alloc, "Registers:", counts[2])?;

@@ -1,7 +1,5 @@
 //! The report of a region.
 ghost use Rattle.std.specs.Prelude.{◌≡◌, ◌++◌, [], ◌∷◌, true, length, IfOk, OnOk, IfErr};
-ghost use Rattle.cycle_rules.specs.Bind.{IsBoundBody};
-ghost use Rattle.cycle_rules.specs.Run.{IsRunOf};
 ghost use Rattle.mca_views.specs.Bottleneck.{HasSums, sequence_of};
 ghost use Rattle.mca_views.specs.Fault.{Over};
 ghost use Rattle.mca_views.specs.Information.{information_lines};
@@ -9,7 +7,7 @@ ghost use Rattle.mca_views.specs.Lines.{lines};
 ghost use Rattle.mca_views.specs.Page.{added};
 ghost use Rattle.mca_views.specs.Pressure.{pressure_lines};
 ghost use Rattle.mca_views.specs.Region.{named, region_head, region_lines, part, bottleneck_part, run_part};
-ghost use Rattle.mca_views.specs.Shown.{shown, run_of, IsShown};
+ghost use Rattle.mca_views.specs.Shown.{shown, IsShown};
 ghost use Rattle.mca_views.specs.Summary.{summary_lines};
 ghost use Rattle.mca_views.specs.Timeline.{timeline_lines};
 ghost use Rattle.mca_views.specs.WaitTimes.{wait_lines};
@@ -47,8 +45,6 @@ pub fn put_region<M: Machine>(
 ) -> Result<(), ViewFault>
     requires closed { page.old.open_line ≡ [] }
     requires shown { IsShown (shown M.meaning v.now) }
-    requires bound { IsBoundBody (M.meaning v.now.machine.now) v.now.body.now }
-    requires run { IsRunOf (run_of (shown M.meaning v.now)) v.now.run.now.rows }
     requires sums { HasSums (shown M.meaning v.now) held.now }
     ensures ok { OnOk result (page.new ≡ added page.old
         (lines (region_lines number name.now o.now (shown M.meaning v.now) (sequence_of held.now)))) }
@@ -108,8 +104,6 @@ fn put_run_part<M: Machine>(
 ) -> Result<(), ViewFault>
     requires closed { page.old.open_line ≡ [] }
     requires shown { IsShown (shown M.meaning v.now) }
-    requires bound { IsBoundBody (M.meaning v.now.machine.now) v.now.body.now }
-    requires run { IsRunOf (run_of (shown M.meaning v.now)) v.now.run.now.rows }
     requires sums { HasSums (shown M.meaning v.now) held.now }
     ensures ok { OnOk result (page.new ≡ added page.old
         (lines (run_part (shown M.meaning v.now) (sequence_of held.now)))) }
@@ -130,8 +124,6 @@ fn put_bottleneck_part<M: Machine>(
 ) -> Result<(), ViewFault>
     requires closed { page.old.open_line ≡ [] }
     requires shown { IsShown (shown M.meaning v.now) }
-    requires bound { IsBoundBody (M.meaning v.now.machine.now) v.now.body.now }
-    requires run { IsRunOf (run_of (shown M.meaning v.now)) v.now.run.now.rows }
     requires sums { HasSums (shown M.meaning v.now) held.now }
     ensures ok { OnOk result (page.new ≡ added page.old
         (lines (bottleneck_part (shown M.meaning v.now) (sequence_of held.now)))) }

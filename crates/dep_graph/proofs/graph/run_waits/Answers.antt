@@ -3,6 +3,7 @@ use Rattle.std.proofs.Math.Nat.{mod-lt}
 use Rattle.std.proofs.lemmas.List.{length-map}
 use Rattle.std.specs.Prelude.{IfOk}
 use Rattle.dep_graph.specs.RunGraph.{IsGraphOf}
+use Rattle.dep_graph.specs.Stalls.{stalls}
 use Rattle.machine_model.specs.Meaning.{MachineMeaning}
 use Rattle.cycle_rules.specs.Bind.{row_of}
 use Rattle.cycle_rules.specs.Row.{Input, input, times}
@@ -68,3 +69,13 @@ returns-clause-sums g c =
     subst (λ n. IfOk c.waits_of.result (λ w. AreSums run (times c.args.run.now.rows) (c.args.iterations * n) w.sums)) (length-map c.args.body.now row_of)
     (subst (λ x. IfOk c.waits_of.result (λ w. AreSums run (times x) run.rows w.sums)) table
     (subst (λ x. IfOk c.waits_of.result (λ w. AreSums x (times c.make-rows.result.table.now) x.rows w.sums)) is c.waits_of.ensures.sums))
+
+pub returns-clause-stalls : goal.returns-clause-stalls
+returns-clause-stalls g c =
+    let m : MachineMeaning = g.M.Machine.meaning c.args.machine.now in
+    let run : Input = input m (map row_of c.args.body.now) c.args.iterations in
+    let is : input (g.M.Machine.meaning c.make-rows.result.machine.now) (map row_of c.make-rows.result.body.now) c.make-rows.result.iterations ≡ run =
+    λ i. input (g.M.Machine.meaning (c.make-rows.ensures.machine i)) (map row_of (c.make-rows.ensures.body i)) (c.make-rows.ensures.iterations i) in
+    let table : c.make-rows.result.table.now ≡ c.args.run.now.rows = c.make-rows.ensures.table ∙ c.as_slice.ensures in
+    subst (λ x. IfOk c.waits_of.result (λ w. w.stalls ≡ stalls run (times x))) table
+    (subst (λ x. IfOk c.waits_of.result (λ w. w.stalls ≡ stalls x (times c.make-rows.result.table.now))) is c.waits_of.ensures.stalls)
