@@ -1,5 +1,5 @@
 -- The greatest of the times of some rows, kept with the first row that reaches it; and what is kept of the waits of a row.
-use Rattle.std.specs.Prelude.{◌≡◌, ℕ, ◌%◌, ◌<◌, List, [], ◌∷◌, length, slice_index_or, true, Option, Some, None, nat_lt, if◌then◌else◌}
+use Rattle.std.specs.Prelude.{◌≡◌, ℕ, ◌%◌, ◌+◌, ◌<◌, ◌≤◌, List, [], ◌∷◌, length, slice_index_or, true, Option, Some, None, nat_lt, if◌then◌else◌}
 use Rattle.rv_isa.specs.declared.facts.Kind.TheVariants.{Load, Store, Barrier}
 use Rattle.cycle_rules.specs.CycleBound.{max_below}
 use Rattle.cycle_rules.specs.Row.{Input, Table}
@@ -12,6 +12,7 @@ use Rattle.dep_graph.specs.PassTimes.{read_time, reads_time, let_go}
 use Rattle.dep_graph.specs.Blamed.{register_blamed, memory_blamed}
 use Rattle.dep_graph.specs.declared.peak.Peak.{Peak}
 use Rattle.dep_graph.specs.declared.memory.Fences.{Fences}
+use Rattle.dep_graph.specs.declared.memory_waits.MemoryWaits.{MemoryWaits}
 use Rattle.dep_graph.specs.declared.waits.RowWaits.{RowWaits}
 use Rattle.dep_graph.specs.declared.waits.Wait.{Wait}
 use Rattle.dep_graph.specs.declared.waits.Waits.{Waits}
@@ -64,10 +65,17 @@ pub record AreRowWaits (g : Input) (t : Table) (j : ℕ) (row : RowWaits) : Type
   pub before : AreWaits g t j row.before
   pub units : row.units ≡ resource_wait g t j
 
--- the wait of a row in a list that ends with the last row that waited
-abbrev pub kept_at : List Wait → ℕ → Wait
-kept_at waits j = slice_index_or waits j (record { cycles = 0; row = 0 })
+-- the wait that is kept of a row: the one at its place
+abbrev pub kept_at : MemoryWaits → ℕ → Wait
+kept_at kept j = slice_index_or kept.waits.items (slice_index_or kept.places.items j 0) (record { cycles = 0; row = 0 })
 
--- such a list has the waits of the first n rows for the order of memory
-abbrev pub AreKept : Input → Table → ℕ → List Wait → Type 0
-AreKept g t n waits = (j : ℕ) → j < n → IsWait (memory_wait g t j) (memory_blamed g t j) (kept_at waits j)
+-- what is kept of the rows below j: where the wait of each stands, and the waits, behind that of rows that did not wait
+pub record IsKept (j : ℕ) (kept : MemoryWaits) : Type 0 where
+  pub rows : length kept.places.items ≤ j
+  pub few : length kept.waits.items ≤ j + 1
+  pub none : slice_index_or kept.waits.items 0 (record { cycles = 0; row = 0 }) ≡ record { cycles = 0; row = 0 }
+  pub within : (k : ℕ) → slice_index_or kept.places.items k 0 < length kept.waits.items
+
+-- the waits of the first n rows for the order of memory are kept
+abbrev pub AreKept : Input → Table → ℕ → MemoryWaits → Type 0
+AreKept g t n kept = (j : ℕ) → j < n → IsWait (memory_wait g t j) (memory_blamed g t j) (kept_at kept j)

@@ -176,7 +176,7 @@ fn all_edges<M: Machine, R: Rows>(
     requires machine { M.meaning machine.now ≡ (R.input rows.now).machine }
     requires links { HaveLinks (R.input rows.now) (R.size rows.now) links.now }
     requires memory { AreKept (R.input rows.now) (times (R.table rows.now)) (R.input rows.now).rows
-        memory.now.waits.items }
+        memory.now }
     requires order { IsIssueOrder (R.input rows.now) (times (R.table rows.now)) order.now }
     requires slots { AreSlots (R.input rows.now) (times (R.table rows.now)) slots.now }
     ensures edges { IfOk result (λ waited. waited.edges.items ≡ edges_along (R.input rows.now)
@@ -209,7 +209,7 @@ fn edges_in_order<M: Machine, R: Rows>(
     requires machine { M.meaning machine.now ≡ (R.input rows.now).machine }
     requires links { HaveLinks (R.input rows.now) (R.size rows.now) links.now }
     requires memory { AreKept (R.input rows.now) (times (R.table rows.now)) (R.input rows.now).rows
-        memory.now.waits.items }
+        memory.now }
     requires order { IsIssueOrder (R.input rows.now) (times (R.table rows.now)) order.now }
     requires slots { AreSlots (R.input rows.now) (times (R.table rows.now)) slots.now }
     requires none { edges.items ≡ [] }

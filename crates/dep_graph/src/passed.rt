@@ -34,7 +34,7 @@ pub fn pass_all<R: Rows>(alloc: Global, rows: &R, links: &[Links]) -> Result<Pas
     ensures slots { IfOk result (λ passed. AreSlots (R.input rows.now) (times (R.table rows.now))
         passed.slots.items) }
     ensures memory { IfOk result (λ passed. AreKept (R.input rows.now) (times (R.table rows.now))
-        (R.input rows.now).rows passed.memory.waits.items) }
+        (R.input rows.now).rows passed.memory) }
     ensures stalls { IfOk result (λ passed. passed.stalls ≡ sums_of (R.input rows.now)
         (times (R.table rows.now)) (R.input rows.now).rows) }
 {
