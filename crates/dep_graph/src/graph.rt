@@ -226,7 +226,7 @@ fn edges_in_order<M: Machine, R: Rows>(
     for i in 0..order.len() {
         let row = order[i];
         let before = Waits {
-            register: register_wait(rows, links, row as usize),
+            register: register_wait(rows, links, slots[row as usize], row as usize),
             memory: memory.of(row),
         };
         push_wait(&mut edges, EdgeKind::Register, row, before.register)?;

@@ -44,8 +44,9 @@ pub fn pass_all<R: Rows>(alloc: Global, rows: &R, links: &[Links]) -> Result<Pas
     let mut walk = Walk::empty();
     let mut stalls = Counts::none();
     for j in 0..rows.count() {
-        slots.push(slot(rows, j))?;
-        memory.keep(j, pass(rows, links, &mut fences, j))?;
+        let slot = slot(rows, j);
+        slots.push(slot)?;
+        memory.keep(j, pass(rows, links, &mut fences, slot, j))?;
         walk.pass(rows, j, &mut stalls);
     }
     Ok(Passed {

@@ -1,5 +1,5 @@
 //! The waits of rows for units.
-ghost use Rattle.std.specs.Prelude.{◌≡◌, ◌<◌, ◌≤◌, ◌+◌, ◌-◌, ◌*◌, ◌^◌, ℕ, length, slice_index, Bool, ◌&&◌, nat_lt, if◌then◌else◌};
+ghost use Rattle.std.specs.Prelude.{◌≡◌, ◌<◌, ◌≤◌, ◌+◌, ◌-◌, ℕ, length, slice_index, ◌&&◌, nat_lt};
 ghost use Rattle.cycle_rules.specs.Row.{times, phase};
 ghost use Rattle.cycle_rules.specs.Waits.{resource_wait};
 ghost use Rattle.critical_chain.specs.declared.graph.EdgeKind.{EdgeKind as EdgeKindOf};
@@ -16,7 +16,7 @@ ghost use Rattle.dep_graph.specs.Walk.{IsSoundRun};
 use crate::holders::{Taker, first_busy, last_holder, take_row};
 use crate::order::is_sooner;
 use crate::rows::Rows;
-use crate::waits::{Wait, Waits};
+use crate::waits::{Wait, Waits, earliest};
 use machine_model::Machine;
 use resource_units::Units;
 
@@ -101,16 +101,6 @@ fn blamed<M: Machine, R: Rows>(
         return None;
     };
     Some(order[place as usize])
-}
-
-// The first cycle in which a row may issue at all, by the slot in which it issues: a reserved row, to
-// which a second slot belongs, as it dispatches, and others in the cycle after.
-fn earliest(dispatch: u64, slot: u64) -> u64
-    requires { dispatch < 2 ^ 42 }
-    ensures { (cycle : ℕ) (reserved : Bool) → slot ≡ 2 * cycle + (if reserved then 1 else 0) →
-        result ≡ (if reserved then dispatch else dispatch + 1) }
-{
-    dispatch + 1 - slot % 2
 }
 
 // A wait, where some row is blamed for it.

@@ -12,6 +12,12 @@ use Rattle.dep_graph.specs.declared.waits.Waits.{Waits}
 use Rattle.dep_graph.proofs.Forward.{edge_wait, along_more, three_pushed}
 use Rattle.dep_graph.proofs.graph.edges_in_order.Goals as goal
 
+pub register_wait-requires-clause-slot : goal.register_wait-requires-clause-slot
+register_wait-requires-clause-slot g c =
+    let j : ℕ = slice_index c.args.order.now c.loop-i.i in
+    let lj : j < (g.R.Rows.input c.args.rows.now).rows = c.requires.order.all.below c.loop-i.i (omega (arith, c.loop-i-test.true, c.requires.order.all.rows)) in
+    c.requires.slots.each j lj
+
 pub unit_wait-found-requires-clause-waits : goal.unit_wait-found-requires-clause-waits
 unit_wait-found-requires-clause-waits g c =
     let run : Input = g.R.Rows.input c.args.rows.now in

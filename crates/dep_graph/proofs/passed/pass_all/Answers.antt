@@ -31,9 +31,9 @@ loop-j-preserved g c =
     let t : Table = times (g.R.Rows.table c.args.rows.now) in
     let old : List ℕ = c.loop-j.slots.items in
     record {
-      size = ap (λ (xs : List ℕ). length xs) c.in_ok-push.ensures.items ∙ length-append old (c.slot.result ∷ []) ∙ ap (λ n. n + 1) c.loop-j.invariant.size;
+      size = ap (λ (xs : List ℕ). length xs) c.in_ok-push.ensures.items ∙ length-append old (c.slot-slot.result ∷ []) ∙ ap (λ n. n + 1) c.loop-j.invariant.size;
       each = λ j lt. subst (λ l. slice_index l j ≡ slot_of run t j) (sym c.in_ok-push.ensures.items)
-          (all_pushed (λ n y. y ≡ slot_of run t n) old c.slot.result 0 c.loop-j.j c.loop-j.invariant.size c.loop-j.invariant.each c.slot.ensures j lt);
+          (all_pushed (λ n y. y ≡ slot_of run t n) old c.slot-slot.result 0 c.loop-j.j c.loop-j.invariant.size c.loop-j.invariant.each c.slot-slot.ensures j lt);
       fences = c.pass.ensures.fences;
       places = c.in_ok-keep.ensures.kept;
       kept = λ j lt. elim (cases_lt j c.loop-j.j) [

@@ -23,7 +23,7 @@ pub overflow_add-earliest : goal.overflow_add-earliest
 overflow_add-earliest g c =
     let run : Input = g.R.Rows.input c.args.rows.now in
     let t : Table = times (g.R.Rows.table c.args.rows.now) in
-    let from : c.earliest.result ≡ earliest run t c.args.j = c.earliest.ensures ∙ (λ i. if (c.requires.instruction i).reserved then (c.requires.at i).dispatch else (c.requires.at i).dispatch + 1) in
+    let from : c.earliest.result ≡ earliest run t c.args.j = c.earliest.ensures (t c.args.j).issue (run.row c.args.j).reserved c.requires.slot ∙ ap (λ r. if (run.row c.args.j).reserved then r.dispatch else r.dispatch + 1) c.requires.at in
     let sum = waits_sum run t c.args.j c.requires.run.run.each c.requires.row in
     omega (arith, from, c.register_wait-register.ensures.is, sum.0, sum.1, sum.2, issue_low run (g.R.Rows.table c.args.rows.now) c.args.j c.requires.run c.requires.row)
 
@@ -31,7 +31,7 @@ pub returns : goal.returns
 returns g c =
     let run : Input = g.R.Rows.input c.args.rows.now in
     let t : Table = times (g.R.Rows.table c.args.rows.now) in
-    let from : c.earliest.result ≡ earliest run t c.args.j = c.earliest.ensures ∙ (λ i. if (c.requires.instruction i).reserved then (c.requires.at i).dispatch else (c.requires.at i).dispatch + 1) in
+    let from : c.earliest.result ≡ earliest run t c.args.j = c.earliest.ensures (t c.args.j).issue (run.row c.args.j).reserved c.requires.slot ∙ ap (λ r. if (run.row c.args.j).reserved then r.dispatch else r.dispatch + 1) c.requires.at in
     let fence : IsPeak (pass_time run t c.args.j) c.args.j c.of_kind-fence.result = c.of_kind-fence.ensures run t c.args.j (ap (λ r. r.kind) (sym c.requires.instruction)) c.requires.fences in
     let sum = waits_sum run t c.args.j c.requires.run.run.each c.requires.row in
     let ready : c.earliest.result + c.register_wait-register.result.cycles ≡ operands_at run t c.args.j = omega (arith, from, c.register_wait-register.ensures.is, sum.0) in

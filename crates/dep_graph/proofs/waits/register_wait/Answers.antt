@@ -13,5 +13,5 @@ pub returns : goal.returns
 returns g c =
     let run : Input = g.R.Rows.input c.args.rows.now in
     let t : Table = times (g.R.Rows.table c.args.rows.now) in
-    let from : c.earliest-from.result ≡ earliest run t c.args.j = c.earliest-from.ensures ∙ (λ i. if (c.instruction.ensures.row i).reserved then (c.times.ensures i).dispatch else (c.times.ensures i).dispatch + 1) in
+    let from : c.earliest-from.result ≡ earliest run t c.args.j = c.earliest-from.ensures (t c.args.j).issue (run.row c.args.j).reserved c.requires.slot ∙ ap (λ r. if (run.row c.args.j).reserved then r.dispatch else r.dispatch + 1) c.times.ensures in
     register_is run t c.args.j c.late.result c.until.result c.requires.run.run.each c.requires.row c.late.ensures (c.until.ensures.cycles ∙ ap (λ m. c.late.result.time - m) from) c.until.ensures.row
