@@ -249,7 +249,11 @@ fn put_sequence<M: Machine>(
     Ok(())
 }
 
-/// Takes memory ahead for the links of a chain: their last line is about the longest, as the numbers of its
+/// By how many bytes a line of a link may well be longer than that of the last one, by the digits of two
+/// places in the body and of the cost.
+const MORE_DIGITS: usize = 8;
+
+/// Takes memory ahead for the links of a chain: their last line is about the longest, as the iterations of its
 /// rows are the greatest.
 fn reserve_links<M: Machine>(page: &mut Page, v: &View<M>, links: &[Edge]) -> Result<(), ViewFault>
     requires some { 0 < length v.now.body.now }
@@ -259,7 +263,8 @@ fn reserve_links<M: Machine>(page: &mut Page, v: &View<M>, links: &[Edge]) -> Re
     match links.last() {
         Some(last) => {
             let start = write_link(v, *last, &mut tag_of(v, last.from), &mut [0; MOST_LINK]);
-            page.reserve(links.len().saturating_mul(MOST_LINK - start + 1))
+            let size = MOST_LINK - start + 1 + MORE_DIGITS;
+            page.reserve(links.len().saturating_mul(size))
         }
         None => Ok(()),
     }
