@@ -1,5 +1,6 @@
 //! The units of a machine.
-ghost use Rattle.std.specs.Prelude.{◌≡◌, ◌<◌, ℕ, length, nat_lt, nat_le, nat_eq, not, ◌&&◌, slice_index};
+ghost use Rattle.std.specs.Prelude.{◌≡◌, ◌<◌, ◌∷◌, [], ℕ, Some, length, nat_lt, nat_le, nat_eq, not, ◌&&◌, slice_index};
+ghost use Rattle.cycle_rules.specs.Pick.{padded};
 ghost use Rattle.resource_units.specs.Kept.{IsSoonest, passed};
 ghost use Rattle.machine_model.specs.declared.limits.TheConstants.{MOST_CYCLES};
 
@@ -120,6 +121,11 @@ impl<'a, M: Machine> Units<'a, M> {
     {
         self.look(c);
         let uses = &b.uses[..b.use_count as usize];
+        // Most instructions have one use. Its unit does not go through an array that is written place by
+        // place: to read that as a whole, the processor waits until all is written.
+        if uses.len() == 1 {
+            return only(self.take_use(&uses[0], c));
+        }
         let mut units = [NO_UNIT; 8];
         for (k, used) in uses.iter().enumerate() {
             units[k] = self.take_use(used, c);
@@ -258,6 +264,15 @@ impl<'a, M: Machine> Units<'a, M> {
         self.next = self.next.min(end);
         unit as u16
     }
+}
+
+// The unit of one use, and no unit in the places behind.
+fn only(unit: u16) -> [u16; 8]
+    ensures { result ≡ padded (Some (unit ∷ [])) }
+{
+    [
+        unit, NO_UNIT, NO_UNIT, NO_UNIT, NO_UNIT, NO_UNIT, NO_UNIT, NO_UNIT,
+    ]
 }
 
 // Takes a unit that is free in cycle `c` out of those that are held; else the sooner of its time and another.
