@@ -81,7 +81,6 @@ pub fn take_row<M: Machine, R: Rows>(
     let k = order[q] as usize;
     let b = rows.instruction(k);
     let c = rows.times(k).issue;
-    units.release_until(c);
     let taken = units.take(b, c);
     note(last, &b.uses[..b.use_count as usize], &taken, q as u32, c);
 }
